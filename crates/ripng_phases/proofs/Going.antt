@@ -9,15 +9,15 @@ use Rattle.ripng_world.specs.Network.{Network, AreLinked}
 use Rattle.ripng_world.specs.Rounds.{IsDueTick}
 use Rattle.ripng_world.specs.Watching.{Told, WatchedRun, heard}
 use Rattle.ripng_world.specs.World.{World, Event, Deliver, Stranger, Tick, Restart, Shutdown, LinkDown, LinkUp, Reconfigure}
-use Rattle.ripng_world.specs.declared.pairs.Pair.{Pair}
+use Rattle.ripng_world.specs.declared.lab.delivering.Pair.{Pair}
 use Rattle.ripng_world.specs.declared.sent.Sent.{Sent}
 use Rattle.ripng_world.proofs.Among.{contains_at, in_map}
 use Rattle.ripng_world.proofs.AskedSynchronous.{to_pairs}
 use Rattle.ripng_world.proofs.Members.{At}
 use Rattle.ripng_phases.specs.Making.{TellsSteps, IsRising, IsInMinute, IsHandedOn, IsUpdateTold, IsUnderway, IsKept, IsAdded, IsDeliveryAt, IsHanded}
 use Rattle.ripng_phases.specs.Phases.{Step, Takes, events_of, reached}
-use Rattle.ripng_phases.specs.declared.course.Course.{Course}
-use Rattle.ripng_phases.specs.declared.course.Update.{Update}
+use Rattle.ripng_phases.specs.declared.acting.Course.{Course}
+use Rattle.ripng_phases.specs.declared.acting.Update.{Update}
 use Rattle.ripng_phases.proofs.Begun.{events_on}
 use Rattle.ripng_phases.proofs.Runs.{takes_rest, takes_reached}
 use Rattle.ripng_phases.proofs.Tells.{tells_on, tells_take, tells_one, contains_left, contains_right, all_on, all_of, rising_on, rising_one}

@@ -13,8 +13,8 @@ use Rattle.ripng_world.specs.declared.watch.Stopped.TheVariants.{Refused, Failed
 use Rattle.ripng_world.proofs.Watched.{failed_at, whole_one}
 use Rattle.ripng_phases.specs.Making.{GoesOn, IsCutShort, IsFresh, IsHandedInPart, IsInMinute, IsLast, IsMadePhase, IsRising, IsTooLate, IsUnderway, MakesPhase, TellsSteps}
 use Rattle.ripng_phases.specs.Phases.{IsHeardUpdate, events_of}
-use Rattle.ripng_phases.specs.declared.course.Course.{Course}
-use Rattle.ripng_phases.specs.declared.course.Update.{Update}
+use Rattle.ripng_phases.specs.declared.acting.Course.{Course}
+use Rattle.ripng_phases.specs.declared.acting.Update.{Update}
 use Rattle.ripng_phases.specs.declared.refused.PhaseRefused.{PhaseRefused}
 use Rattle.ripng_phases.specs.declared.refused.PhaseRefused.TheVariants.{OutOfMemory}
 use Rattle.ripng_phases.proofs.Begun.{events_on}

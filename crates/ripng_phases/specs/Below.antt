@@ -10,8 +10,8 @@ pub use Rattle.ripng_world.specs.World.{Happens, Restart, Shutdown, LinkDown, Li
 pub use Rattle.ripng_world.specs.declared.sent.Sent.{Sent}
 pub use Rattle.ripng_world.specs.declared.watch.Stopped.{Stopped}
 pub use Rattle.ripng_world.specs.declared.watch.Stopped.TheVariants.{Refused}
-pub use Rattle.ripng_phases.specs.declared.course.Course.{Course}
-pub use Rattle.ripng_phases.specs.declared.course.Update.{Update}
+pub use Rattle.ripng_phases.specs.declared.acting.Course.{Course}
+pub use Rattle.ripng_phases.specs.declared.acting.Update.{Update}
 pub use Rattle.ripng_phases.specs.declared.refused.PhaseRefused.{PhaseRefused}
 pub use Rattle.ripng_phases.specs.declared.refused.PhaseRefused.TheVariants.{NoUpdateInTime, PastLastMoment, OutOfMemory}
 pub use Rattle.ripng_phases.specs.declared.shown.ShownRoute.{ShownRoute}

@@ -17,12 +17,10 @@
 //! then comes out, and the last phase in which a table changed. The theorems over all histories stand in `laws.rt`.
 //!
 //! Read the definitions in `specs/` in this order: Phases (the four rules of a phase), Minutes (histories by a true clock), Making
-//! and Changing (what `run_phases` promises). Begin in the code with `making.rt`: a phase is made of the actions in `acting.rt`,
-//! and `course.rt` says how far it has come.
+//! and Changing (what `run_phases` promises). Begin in the code with `making.rt`: a phase is made of the actions in `acting.rt`.
 #![tactic(auto)]
 
 mod acting;
-mod course;
 mod laws;
 mod making;
 mod refused;

@@ -8,8 +8,7 @@
 ghost use Rattle.std.specs.Prelude.{◌≡◌, ◌↔◌, ℕ, ◌+◌, ◌^◌, ◌<◌, ◌≤◌, ◌⊎◌, max, IfErr, IfOk, IfSome, IsTrue, OnOk, None, Some, length, slice_get};
 ghost use Rattle.ripng_phases.specs.Common.{State, shown_in, AreMadeInPart, AreMadePhases, GoesOn, HealsIn, IsCutShort, IsFresh, IsLatest, IsMadePhase, LetsArriveIn, MakesPhase, Update as UpdateValue};
 
-use crate::acting::{hand_on, tick};
-use crate::course::{Course, PHASE_MS};
+use crate::acting::{Course, PHASE_MS, hand_on, tick};
 use crate::refused::PhaseRefused;
 use crate::shown::shown_routes;
 use rand_core::Rng;

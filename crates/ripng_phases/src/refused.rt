@@ -17,27 +17,16 @@ pub enum PhaseRefused {
 
 impl PhaseRefused {
     ghost use Rattle.std.specs.Prelude.{◌≡◌};
-    ghost use Rattle.ripng_phases.specs.Refusing.{refused_name, refused_number};
+    ghost use Rattle.ripng_phases.specs.Refusing.{refused_name};
 
-    /// The number of the refusal, 43 to 45.
-    pub fn number(self) -> u8
-        ensures { result ≡ refused_number self }
+    /// The name of the refusal, one word, and its number, 43 to 45.
+    pub fn name_and_number(self) -> (&'static str, u8)
+        ensures { (result.0.now, result.1) ≡ refused_name self }
     {
         match self {
-            PhaseRefused::NoUpdateInTime { .. } => 43,
-            PhaseRefused::PastLastMoment => 44,
-            PhaseRefused::OutOfMemory => 45,
-        }
-    }
-
-    /// The name of the refusal, one word.
-    pub fn name(self) -> &'static str
-        ensures { result.now ≡ refused_name self }
-    {
-        match self {
-            PhaseRefused::NoUpdateInTime { .. } => "NoUpdateInTime",
-            PhaseRefused::PastLastMoment => "PastLastMoment",
-            PhaseRefused::OutOfMemory => "OutOfMemory",
+            PhaseRefused::NoUpdateInTime { .. } => ("NoUpdateInTime", 43),
+            PhaseRefused::PastLastMoment => ("PastLastMoment", 44),
+            PhaseRefused::OutOfMemory => ("OutOfMemory", 45),
         }
     }
 }

@@ -6,7 +6,7 @@ ghost use Rattle.std.specs.FinMap as map_of;
 
 use prefix6::Prefix;
 use ripng_world::Lab;
-use route_table::{Origin, Route, RouteStore};
+use route_table::{Origin, RouteStore};
 use router_core::Router;
 use std::alloc::{AllocError, Global};
 
@@ -18,19 +18,6 @@ pub struct ShownRoute {
     pub metric: u8,
     pub tag: u16,
     pub origin: Origin,
-}
-
-/// What is shown of a route.
-fn shown_route(router: usize, prefix: Prefix, route: Route) -> ShownRoute
-    ensures { result ≡ shown_route router (prefix, route) }
-{
-    ShownRoute {
-        router,
-        prefix,
-        metric: route.metric(),
-        tag: route.tag(),
-        origin: route.origin(),
-    }
 }
 
 /// The routes of the router with that number are shown after others.
@@ -45,7 +32,13 @@ fn show<S: RouteStore>(
     let mut routes = Vec::with_capacity(alloc, router.routes().len())?;
     router.routes().list(&mut routes);
     for (prefix, route) in &routes {
-        shown.push(shown_route(number, *prefix, *route))?;
+        shown.push(ShownRoute {
+            router: number,
+            prefix: *prefix,
+            metric: route.metric(),
+            tag: route.tag(),
+            origin: route.origin(),
+        })?;
     }
     Ok(())
 }

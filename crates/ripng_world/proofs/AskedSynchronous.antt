@@ -18,7 +18,7 @@ use Rattle.ripng_world.specs.Rounds.{Round, AllTick, AllHeard, SynchronousRounds
 use Rattle.ripng_world.specs.Stopping.{HaveFailed, HaveStopped, StopsFor, StopsForWatcher}
 use Rattle.ripng_world.specs.World.{World, Event, Deliver, Tick, WorldRun, IsCold, reconfiguration_in, reconfigurations_in}
 use Rattle.ripng_world.specs.declared.network.NetInterface.{NetInterface}
-use Rattle.ripng_world.specs.declared.pairs.Pair.{Pair}
+use Rattle.ripng_world.specs.declared.lab.delivering.Pair.{Pair}
 use Rattle.ripng_world.specs.declared.rounds.RoundsRefused.{RoundsRefused}
 use Rattle.ripng_world.specs.declared.rounds.RoundsRefused.TheVariants.{NoRegularUpdate, OutOfMemory}
 use Rattle.ripng_world.specs.declared.sent.Sent.{Sent}

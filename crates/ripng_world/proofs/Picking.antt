@@ -8,7 +8,7 @@ use Rattle.std.proofs.lemmas.List.Elements.{filter-append, filter_map-append}
 use Rattle.std.proofs.lemmas.List.Folds.{list_any_more}
 use Rattle.ripng_world.specs.AskedRounds.{delivery, is_picked, other_deliveries, picked_deliveries}
 use Rattle.ripng_world.specs.World.{Event}
-use Rattle.ripng_world.specs.declared.pairs.Pair.{Pair}
+use Rattle.ripng_world.specs.declared.lab.delivering.Pair.{Pair}
 use Rattle.ripng_world.proofs.Among.{enumerate_more}
 
 one_left : (b : Bool) (i : ℕ) (x : Pair) (rest : ℕ) → map (λ (p : ℕ × Pair). delivery p.1 rest) (cond b ((i, x) ∷ []) []) ≡ cond b (delivery x rest ∷ []) []

@@ -38,7 +38,7 @@ pub use Rattle.ripng_world.specs.declared.event.LabError.TheVariants.{NoSuchRout
 pub use Rattle.ripng_world.specs.declared.network.NetInterface.{NetInterface}
 pub use Rattle.ripng_world.specs.declared.network.NetRefused.{NetRefused}
 pub use Rattle.ripng_world.specs.declared.network.NetRefused.TheVariants.{TooManyRouters, AddressSharedInNetwork, BadRouter}
-pub use Rattle.ripng_world.specs.declared.pairs.Pair.{Pair}
+pub use Rattle.ripng_world.specs.declared.lab.delivering.Pair.{Pair}
 pub use Rattle.ripng_world.specs.declared.path.PathEnd.{PathEnd}
 pub use Rattle.ripng_world.specs.declared.path.PathEnd.TheVariants.{Delivered, NoRoute, NextHopIsNobodys, Loops}
 pub use Rattle.ripng_world.specs.declared.rounds.RoundsRefused.{RoundsRefused}

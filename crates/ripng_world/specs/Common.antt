@@ -8,14 +8,14 @@ pub use Rattle.ripng_world.specs.Rounds.{router_of, IsDueTick, Round, Synchronou
 pub use Rattle.ripng_world.specs.Truth.{IsNeighbor, IsSoundTable, IsSoundEntry, IsSoundDatagram}
 pub use Rattle.ripng_world.specs.TruthSince.{IsNeighborSince, IsSoundTableSince, IsSoundEntrySince, IsSoundDatagramSince}
 pub use Rattle.ripng_world.specs.Convergence.{IsNeverQuiet, FitsTables, AreConverged}
-pub use Rattle.ripng_world.specs.NetworkFaults.{address_reasons, addresses, faults_of_router, net_refused_name, net_refused_number, network_fault, router_reasons}
+pub use Rattle.ripng_world.specs.NetworkFaults.{address_reasons, addresses, faults_of_router, net_refused_name, network_fault, router_reasons}
 pub use Rattle.ripng_world.specs.Events.{event_of, happening_of}
 pub use Rattle.ripng_world.specs.Stations.{coded_states, network_of, world_of, IsMoveAt, IsPlaced, MoveStations, StationValue, most_sends}
-pub use Rattle.ripng_world.specs.Labs.{LabValue, lab_error_name, lab_error_number, refusal_of, Keeps, HasRun, HasNoneBelowLeast, HasNoneBelowLeastSince, AreDatagramsSoundSince, AreDatagramsSound, HappensGiving, IsRefusedNext, StepEnds, link_at, IsRefusal, event_fault, lab_of, named_reasons, missing_interface_reasons, missing_router_reasons}
+pub use Rattle.ripng_world.specs.Labs.{LabValue, lab_error_name, refusal_of, Keeps, HasRun, HasNoneBelowLeast, HasNoneBelowLeastSince, AreDatagramsSoundSince, AreDatagramsSound, HappensGiving, IsRefusedNext, StepEnds, link_at, IsRefusal, event_fault, lab_of, named_reasons, missing_interface_reasons, missing_router_reasons}
 pub use Rattle.ripng_world.specs.Lying.{lie_fault, IsLieRefusal, LiesGiving}
 pub use Rattle.ripng_world.specs.AskedRounds.{deliveries_of, delivery, interfaces_of, is_other, is_picked, other_deliveries, pairs_since, picked_deliveries, AreAllMade, Converges, ticks_of}
 pub use Rattle.ripng_world.specs.Delivering.{StopAt, StopForMemory, deliveries_since}
-pub use Rattle.ripng_world.specs.Stopping.{HaveStopped, RoundStops, RoundsStop, round_in, stop_name, stop_number}
+pub use Rattle.ripng_world.specs.Stopping.{HaveStopped, RoundStops, RoundsStop, round_in, stop_name}
 pub use Rattle.ripng_world.specs.Watching.{HeardInPart, WatchedInPart, WatchedRun, failures, heard, AreMadeTold, IfRefused, IsMadeTold, RoundToldInPart, RoundsToldInPart, due, WatchedUntil, failures_in, refusal_in, Told, refused_as}
 pub use Rattle.ripng_world.specs.Healing.{Heals, AreWithinGarbageTime, AreHealed, FitsTablesSince, network_now}
 pub use Rattle.ripng_world.specs.Packets.{LetsArrive, Forwardings, ForwardsBy, ArriveBy, AreThere, PacketsArrive, forwardings_of, routers_of, HandsOn}

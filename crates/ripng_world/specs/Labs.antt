@@ -179,24 +179,13 @@ pub record IsRefusedNext (lab : LabValue) (events : List Event) (place : ℕ) (w
   pub event_is : slice_get events place ≡ Some event
   pub reason : IsRefusal lab event why
 
--- the number of a refusal
-abbrev pub lab_error_number : LabError → ℕ
-lab_error_number NoSuchRouter = 1
-lab_error_number NoSuchInterface = 2
-lab_error_number NoSuchDatagram = 3
-lab_error_number OtherLink = 4
-lab_error_number NotAStranger = 5
-lab_error_number OutOfMemory = 6
-lab_error_number (LabError.ReconfigureRefused why) = 7
-lab_error_number NotALiar = 8
-
--- the name of a refusal
-abbrev pub lab_error_name : LabError → List ℕ
-lab_error_name NoSuchRouter = codes "NoSuchRouter"
-lab_error_name NoSuchInterface = codes "NoSuchInterface"
-lab_error_name NoSuchDatagram = codes "NoSuchDatagram"
-lab_error_name OtherLink = codes "OtherLink"
-lab_error_name NotAStranger = codes "NotAStranger"
-lab_error_name OutOfMemory = codes "OutOfMemory"
-lab_error_name (LabError.ReconfigureRefused why) = codes "ReconfigureRefused"
-lab_error_name NotALiar = codes "NotALiar"
+-- the name of a refusal, and its number
+abbrev pub lab_error_name : LabError → List ℕ × ℕ
+lab_error_name NoSuchRouter = (codes "NoSuchRouter", 1)
+lab_error_name NoSuchInterface = (codes "NoSuchInterface", 2)
+lab_error_name NoSuchDatagram = (codes "NoSuchDatagram", 3)
+lab_error_name OtherLink = (codes "OtherLink", 4)
+lab_error_name NotAStranger = (codes "NotAStranger", 5)
+lab_error_name OutOfMemory = (codes "OutOfMemory", 6)
+lab_error_name (LabError.ReconfigureRefused why) = (codes "ReconfigureRefused", 7)
+lab_error_name NotALiar = (codes "NotALiar", 8)

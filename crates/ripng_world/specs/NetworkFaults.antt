@@ -35,16 +35,9 @@ network_reasons net =
 abbrev pub network_fault : Network → Option NetRefused
 network_fault net = first_reason (network_reasons net)
 
--- the number of a refusal
-abbrev pub net_refused_number : NetRefused → ℕ
-net_refused_number TooManyRouters = 1
-net_refused_number AddressSharedInNetwork = 2
-net_refused_number (BadRouter router refusal) = 3
-net_refused_number OutOfMemory = 4
-
--- the name of a refusal
-abbrev pub net_refused_name : NetRefused → List ℕ
-net_refused_name TooManyRouters = codes "TooManyRouters"
-net_refused_name AddressSharedInNetwork = codes "AddressSharedInNetwork"
-net_refused_name (BadRouter router refusal) = codes "BadRouter"
-net_refused_name OutOfMemory = codes "OutOfMemory"
+-- the name of a refusal, and its number
+abbrev pub net_refused_name : NetRefused → List ℕ × ℕ
+net_refused_name TooManyRouters = (codes "TooManyRouters", 1)
+net_refused_name AddressSharedInNetwork = (codes "AddressSharedInNetwork", 2)
+net_refused_name (BadRouter router refusal) = (codes "BadRouter", 3)
+net_refused_name OutOfMemory = (codes "OutOfMemory", 4)

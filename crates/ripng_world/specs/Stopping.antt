@@ -90,12 +90,7 @@ RoundsStop net w asked (Failed fault) w' = HaveFailed net w asked w'
 
 -- ---- names
 
--- the number of a refusal
-abbrev pub stop_number : RoundsRefused → ℕ
-stop_number (NoRegularUpdate round router) = 41
-stop_number (OutOfMemory round) = 42
-
--- the name of a refusal
-abbrev pub stop_name : RoundsRefused → List ℕ
-stop_name (NoRegularUpdate round router) = codes "NoRegularUpdate"
-stop_name (OutOfMemory round) = codes "OutOfMemory"
+-- the name of a refusal, and its number
+abbrev pub stop_name : RoundsRefused → List ℕ × ℕ
+stop_name (NoRegularUpdate round router) = (codes "NoRegularUpdate", 41)
+stop_name (OutOfMemory round) = (codes "OutOfMemory", 42)

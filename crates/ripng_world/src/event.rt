@@ -1,7 +1,7 @@
 //! What may happen in a network, and why an event is refused.
 
 ghost use Rattle.std.specs.Prelude.{◌≡◌};
-ghost use Rattle.ripng_world.specs.Common.{event_of, lab_error_name, lab_error_number, refusal_of, router_of, OutOfMemory};
+ghost use Rattle.ripng_world.specs.Common.{event_of, lab_error_name, refusal_of, router_of, OutOfMemory};
 
 use route_table::Moment;
 use router_core::{Arrival, Change, ReconfigureRefused};
@@ -109,35 +109,19 @@ pub enum LabError {
 }
 
 impl LabError {
-    /// The number of the refusal, 1 to 8.
-    pub fn number(self) -> u8
-        ensures { result ≡ lab_error_number self }
+    /// The name of the refusal, one word, and its number, 1 to 8.
+    pub fn name_and_number(self) -> (&'static str, u8)
+        ensures { (result.0.now, result.1) ≡ lab_error_name self }
     {
         match self {
-            LabError::NoSuchRouter => 1,
-            LabError::NoSuchInterface => 2,
-            LabError::NoSuchDatagram => 3,
-            LabError::OtherLink => 4,
-            LabError::NotAStranger => 5,
-            LabError::OutOfMemory => 6,
-            LabError::ReconfigureRefused(_) => 7,
-            LabError::NotALiar => 8,
-        }
-    }
-
-    /// The name of the refusal, one word.
-    pub fn name(self) -> &'static str
-        ensures { result.now ≡ lab_error_name self }
-    {
-        match self {
-            LabError::NoSuchRouter => "NoSuchRouter",
-            LabError::NoSuchInterface => "NoSuchInterface",
-            LabError::NoSuchDatagram => "NoSuchDatagram",
-            LabError::OtherLink => "OtherLink",
-            LabError::NotAStranger => "NotAStranger",
-            LabError::OutOfMemory => "OutOfMemory",
-            LabError::ReconfigureRefused(_) => "ReconfigureRefused",
-            LabError::NotALiar => "NotALiar",
+            LabError::NoSuchRouter => ("NoSuchRouter", 1),
+            LabError::NoSuchInterface => ("NoSuchInterface", 2),
+            LabError::NoSuchDatagram => ("NoSuchDatagram", 3),
+            LabError::OtherLink => ("OtherLink", 4),
+            LabError::NotAStranger => ("NotAStranger", 5),
+            LabError::OutOfMemory => ("OutOfMemory", 6),
+            LabError::ReconfigureRefused(_) => ("ReconfigureRefused", 7),
+            LabError::NotALiar => ("NotALiar", 8),
         }
     }
 }

@@ -2,14 +2,14 @@
 //! datagram advertises, is backed by a walk through the network.
 
 ghost use Rattle.std.specs.Prelude.{◌≡◌, ◌++◌, ◌∷◌, [], IfErr, IfOk, IfSome, OnOk, length, map, take, slice_get, option_copied};
-ghost use Rattle.ripng_world.specs.Common.{result_err, event_of, HasRun, Keeps, HasNoneBelowLeast, HasNoneBelowLeastSince, AreDatagramsSoundSince, AreDatagramsSound, HappensGiving, IsRefusedNext, StepEnds, link_at, IsTableBackedSince, network_of, world_of, IsTableBacked, IfRefused, WatchedInPart, WatchedUntil, failures, failures_in, refusal_in, IsCold, WorldRun, reconfigurations_in, past_of, LabValue, coded_states};
+ghost use Rattle.ripng_world.specs.Common.{result_err, event_of, HasRun, Keeps, HasNoneBelowLeast, HasNoneBelowLeastSince, AreDatagramsSoundSince, AreDatagramsSound, HappensGiving, IsRefusedNext, StepEnds, link_at, IsTableBackedSince, IsTableBacked, IfRefused, WatchedInPart, WatchedUntil, failures, failures_in, refusal_in, IsCold, WorldRun, reconfigurations_in, past_of, LabValue, coded_states};
 
 mod delivering;
 mod making;
 
 use crate::event::{Event, LabError};
 use crate::moving::file;
-use crate::network::{NetConfig, NetRouter};
+use crate::network::NetConfig;
 use crate::running::Running;
 use crate::sent::Sent;
 use crate::station::Station;
@@ -17,7 +17,7 @@ use crate::watch::{Observer, Stopped, Unwatched};
 pub use delivering::wants_memory;
 use route_table::{Moment, RouteStore};
 use router_core::{Answer, Change, Router};
-use std::alloc::{AllocError, Global};
+use std::alloc::Global;
 use std::marker::Model;
 
 /// A network that runs.
@@ -36,28 +36,6 @@ impl<S: RouteStore> Model for Lab<S> {
     ghost invariant = { λ l. HasRun l.running.network l.running.world };
 }
 
-/// Each router starts at its moment.
-fn start_all<S: RouteStore>(
-    alloc: Global,
-    routers: Vec<NetRouter>,
-    moments: &[Moment],
-) -> Result<(Vec<Station<S>>, Vec<Sent>), AllocError>
-    requires { length moments.now ≡ length routers.items }
-    ensures network { IfOk result (λ r. network_of r.0.items ≡ routers.items) }
-    ensures cold { IfOk result (λ r. IsCold routers.items moments.now (world_of r.0.items r.1.items [])) }
-{
-    let mut stations = Vec::with_capacity(alloc, routers.len())?;
-    let mut sent = Vec::new(alloc);
-    for router in routers {
-        let number = stations.len();
-        let (station, answer) = Station::start(alloc, router, moments[number])?;
-        sent.reserve(answer.sends.as_slice().len())?;
-        file(&mut sent, number, answer.sends);
-        stations.push_reserved(station);
-    }
-    Ok((stations, sent))
-}
-
 impl<S: RouteStore> Lab<S> {
     /// Every router of a network starts, each at its moment, in order.
     ///
@@ -71,7 +49,15 @@ impl<S: RouteStore> Lab<S> {
         ensures keeps { IfOk result Keeps }
     {
         let NetConfig { routers } = network;
-        let (stations, sent) = start_all(alloc, routers, moments)?;
+        let mut stations = Vec::with_capacity(alloc, routers.len())?;
+        let mut sent = Vec::new(alloc);
+        for router in routers {
+            let number = stations.len();
+            let (station, answer) = Station::start(alloc, router, moments[number])?;
+            sent.reserve(answer.sends.as_slice().len())?;
+            file(&mut sent, number, answer.sends);
+            stations.push_reserved(station);
+        }
         Ok(Lab {
             running: Running {
                 stations,

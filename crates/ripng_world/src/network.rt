@@ -1,7 +1,7 @@
 //! Networks: routers with interfaces on links, and which of them are lawful.
 
 ghost use Rattle.std.specs.Prelude.{◌≡◌, ◌≢◌, All, map, None, Some, IfErr, IfOk, OnOk};
-ghost use Rattle.ripng_world.specs.Common.{result_err, first_reason, IsConfig, reasons_of_each, IsNetwork, config_of, address_reasons, addresses, faults_of_router, net_refused_name, net_refused_number, network_fault, router_reasons, Network};
+ghost use Rattle.ripng_world.specs.Common.{result_err, first_reason, IsConfig, reasons_of_each, IsNetwork, config_of, address_reasons, addresses, faults_of_router, net_refused_name, network_fault, router_reasons, Network};
 ghost use Rattle.ripng_world.specs.declared.network.NetRefused.TheVariants.{OutOfMemory};
 
 use prefix6::{Addr6, Prefix};
@@ -63,27 +63,15 @@ pub enum NetRefused {
 }
 
 impl NetRefused {
-    /// The number of the refusal, 1 to 4.
-    pub fn number(self) -> u8
-        ensures { result ≡ net_refused_number self }
+    /// The name of the refusal, one word, and its number, 1 to 4.
+    pub fn name_and_number(self) -> (&'static str, u8)
+        ensures { (result.0.now, result.1) ≡ net_refused_name self }
     {
         match self {
-            NetRefused::TooManyRouters => 1,
-            NetRefused::AddressSharedInNetwork => 2,
-            NetRefused::BadRouter { .. } => 3,
-            NetRefused::OutOfMemory => 4,
-        }
-    }
-
-    /// The name of the refusal, one word.
-    pub fn name(self) -> &'static str
-        ensures { result.now ≡ net_refused_name self }
-    {
-        match self {
-            NetRefused::TooManyRouters => "TooManyRouters",
-            NetRefused::AddressSharedInNetwork => "AddressSharedInNetwork",
-            NetRefused::BadRouter { .. } => "BadRouter",
-            NetRefused::OutOfMemory => "OutOfMemory",
+            NetRefused::TooManyRouters => ("TooManyRouters", 1),
+            NetRefused::AddressSharedInNetwork => ("AddressSharedInNetwork", 2),
+            NetRefused::BadRouter { .. } => ("BadRouter", 3),
+            NetRefused::OutOfMemory => ("OutOfMemory", 4),
         }
     }
 }

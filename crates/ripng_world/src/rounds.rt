@@ -43,25 +43,15 @@ pub enum RoundsRefused {
 
 impl RoundsRefused {
     ghost use Rattle.std.specs.Prelude.{◌≡◌};
-    ghost use Rattle.ripng_world.specs.Common.{stop_name, stop_number};
+    ghost use Rattle.ripng_world.specs.Common.{stop_name};
 
-    /// The number of the refusal, 41 or 42.
-    pub fn number(self) -> u8
-        ensures { result ≡ stop_number self }
+    /// The name of the refusal, one word, and its number, 41 or 42.
+    pub fn name_and_number(self) -> (&'static str, u8)
+        ensures { (result.0.now, result.1) ≡ stop_name self }
     {
         match self {
-            RoundsRefused::NoRegularUpdate { .. } => 41,
-            RoundsRefused::OutOfMemory { .. } => 42,
-        }
-    }
-
-    /// The name of the refusal, one word.
-    pub fn name(self) -> &'static str
-        ensures { result.now ≡ stop_name self }
-    {
-        match self {
-            RoundsRefused::NoRegularUpdate { .. } => "NoRegularUpdate",
-            RoundsRefused::OutOfMemory { .. } => "OutOfMemory",
+            RoundsRefused::NoRegularUpdate { .. } => ("NoRegularUpdate", 41),
+            RoundsRefused::OutOfMemory { .. } => ("OutOfMemory", 42),
         }
     }
 }

@@ -1,14 +1,15 @@
 //! Routers that run in a network, with all that they have sent. Only what each step does is promised of them. More holds while no
 //! router has received a forged Response: that is promised of a `Lab`, which is made of this.
 
-ghost use Rattle.std.specs.Prelude.{◌≡◌, ◌∷◌, [], IfErr, IfOk, OnErr, length, slice_get, option_copied};
-ghost use Rattle.ripng_world.specs.Common.{result_err, event_of, HappensGiving, StepEnds, link_at, IsLieRefusal, LiesGiving, IfRefused, WatchedInPart, failures, refusal_in, LabValue, lab_of, coded_states};
+ghost use Rattle.std.specs.Prelude.{◌≡◌, ℕ, ◌∷◌, [], Some, IfErr, IfOk, OnErr, length, slice_get, option_copied};
+ghost use Rattle.ripng_world.specs.Common.{result_err, first_reason, event_of, event_fault, HappensGiving, StepEnds, link_at, missing_interface_reasons, missing_router_reasons, lie_fault, Deliver, Stranger, is_heard, IsLieRefusal, LiesGiving, IfRefused, WatchedInPart, failures, refusal_in, LabValue, lab_of, coded_states};
 
 use crate::event::{Event, Happening, LabError};
 use crate::moving::{act, file, happen};
 use crate::sent::Sent;
 use crate::station::{Station, interface_at};
 use crate::watch::{Observer, Stopped};
+use ripng_wire::Command;
 use route_table::RouteStore;
 use router_core::{Answer, Arrival, Change, Listed, Router};
 use std::alloc::Global;
@@ -29,6 +30,15 @@ impl<S: RouteStore> Model for Running<S> {
     ghost coded = { Prim.hlevel coded_states };
 
     ghost view = { λ l. lab_of l.stations.items l.sent.items l.reconfigurations.items };
+}
+
+/// Whether the router would accept the arrival as a Response. Only a Response is decoded for that.
+fn is_heard<S: RouteStore>(router: &Router<S>, arrival: &Arrival<'_>) -> bool
+    ensures { result ≡ is_heard router.now arrival.entry.now }
+{
+    let command = arrival.bytes.first();
+    command.is_some_and(|&command| command == Command::Response as u8)
+        && router.fault_of(arrival).is_none()
 }
 
 impl<S: RouteStore> Running<S> {
@@ -65,6 +75,91 @@ impl<S: RouteStore> Running<S> {
         ensures { result ≡ link_at self.now.network router iface }
     {
         interface_at(&self.stations, router, iface).map(|i| i.link)
+    }
+
+    /// Whether there is such a router.
+    fn check_router(&self, router: usize) -> Result<(), LabError>
+        ensures { result_err result ≡ first_reason (missing_router_reasons self.now.network router) }
+    {
+        if router < self.routers() {
+            Ok(())
+        } else {
+            Err(LabError::NoSuchRouter)
+        }
+    }
+
+    /// The link of an interface, if there is such a router and interface.
+    fn check_interface(&self, router: usize, iface: usize) -> Result<u16, LabError>
+        ensures fault { result_err result ≡ first_reason (missing_interface_reasons self.now.network router iface) }
+        ensures link { IfOk result (λ link. link_at self.now.network router iface ≡ Some link) }
+    {
+        self.check_router(router)?;
+        self.link(router, iface).ok_or(LabError::NoSuchInterface)
+    }
+
+    /// Whether there is such a datagram, sent on the link of the interface.
+    fn check_delivery(&self, datagram: usize, router: usize, iface: usize) -> Result<(), LabError>
+        ensures { (now : ℕ) → result_err result ≡ event_fault self.now (Deliver datagram router iface now) }
+    {
+        let link = self.check_interface(router, iface)?;
+        let Some(datagram) = self.sent().get(datagram) else {
+            return Err(LabError::NoSuchDatagram);
+        };
+        match self.link(datagram.router, datagram.iface) {
+            Some(own) if own == link => Ok(()),
+            _ => Err(LabError::OtherLink),
+        }
+    }
+
+    /// Whether an outside host may send the arrival.
+    fn check_stranger(&self, router: usize, arrival: &Arrival<'_>) -> Result<(), LabError>
+        ensures { result_err result ≡ event_fault self.now (Stranger router arrival.entry.now) }
+    {
+        self.check_interface(router, arrival.iface)?;
+        match self.router(router) {
+            Some(router) if is_heard(router, arrival) => Err(LabError::NotAStranger),
+            _ => Ok(()),
+        }
+    }
+
+    /// Whether a datagram is a forged Response: the router would accept it as one from a neighbor.
+    ///
+    /// # Errors
+    /// The first reason that it is not: no such router, no such interface, or a datagram that any outside host may send.
+    pub fn check_lie(&self, router: usize, arrival: &Arrival<'_>) -> Result<(), LabError>
+        ensures { result_err result ≡ lie_fault self.now router arrival.entry.now }
+    {
+        self.check_interface(router, arrival.iface)?;
+        match self.router(router) {
+            Some(router) if is_heard(router, arrival) => Ok(()),
+            _ => Err(LabError::NotALiar),
+        }
+    }
+
+    /// The first reason to refuse an event, before its router is asked.
+    fn check(&self, event: &Event<'_>) -> Result<(), LabError>
+        ensures { result_err result ≡ event_fault self.now (event_of event.entry.now) }
+    {
+        match event {
+            Event::Deliver {
+                datagram,
+                router,
+                iface,
+                ..
+            } => self.check_delivery(*datagram, *router, *iface),
+            Event::Stranger { router, arrival } => self.check_stranger(*router, arrival),
+            Event::LinkDown { router, iface, .. }
+            | Event::LinkUp { router, iface, .. }
+            | Event::Reconfigure {
+                router,
+                change: Change::Cost { iface, .. },
+                ..
+            } => self.check_interface(*router, *iface).map(|_| ()),
+            Event::Tick { router, .. }
+            | Event::Restart { router, .. }
+            | Event::Shutdown { router, .. }
+            | Event::Reconfigure { router, .. } => self.check_router(*router),
+        }
     }
 
     /// An event happens: one router moves, and answers. What it sends goes to the end of `sent`, and is not in the answer.

@@ -95,18 +95,19 @@ impl RefusalName {
 impl Refusal {
     /// Its name, and its number if it is one of those of a network.
     fn name_and_number(&self) -> (&'static str, Option<u8>) {
-        match self {
-            Refusal::BadLine(_) => ("BadLine", None),
-            Refusal::NameTwice => ("NameTwice", None),
-            Refusal::NoSuchLink => ("NoSuchLink", None),
-            Refusal::DatagramLost => ("DatagramLost", None),
-            Refusal::Outage => ("Outage", None),
-            Refusal::LiedTo => ("LiedTo", None),
-            Refusal::Network(refused) => (refused.name(), Some(refused.number())),
-            Refusal::Event(error) => (error.name(), Some(error.number())),
-            Refusal::Rounds(refused) => (refused.name(), Some(refused.number())),
-            Refusal::Phases { refused, .. } => (refused.name(), Some(refused.number())),
-        }
+        let (name, number) = match self {
+            Refusal::BadLine(_) => return ("BadLine", None),
+            Refusal::NameTwice => return ("NameTwice", None),
+            Refusal::NoSuchLink => return ("NoSuchLink", None),
+            Refusal::DatagramLost => return ("DatagramLost", None),
+            Refusal::Outage => return ("Outage", None),
+            Refusal::LiedTo => return ("LiedTo", None),
+            Refusal::Network(refused) => refused.name_and_number(),
+            Refusal::Event(error) => error.name_and_number(),
+            Refusal::Rounds(refused) => refused.name_and_number(),
+            Refusal::Phases { refused, .. } => refused.name_and_number(),
+        };
+        (name, Some(number))
     }
 
     /// Whether this is the name of the refusal, or of a router's reason for it.

@@ -1,7 +1,7 @@
 //! Rounds of a lab: every router advertises its whole table, and all of it arrives.
 
 ghost use Rattle.std.specs.Prelude.{◌≡◌, ℕ, ◌<◌, ◌↔◌, max, IsTrue, All, IfErr, OnOk, Some, length, slice_get};
-ghost use Rattle.ripng_world.specs.Common.{State, AreAllMade, Converges, ticks_of, Heals, LetsArrive, Keeps, IsDueTick, HaveStopped, RoundStops, RoundsStop, round_in, AreMadeTold, IfRefused, IsMadeTold, RoundToldInPart, RoundsToldInPart, WatchedInPart, WatchedRun, due, failures, Tick};
+ghost use Rattle.ripng_world.specs.Common.{State, AreAllMade, Converges, Heals, LetsArrive, Keeps, IsDueTick, HaveStopped, RoundStops, RoundsStop, round_in, AreMadeTold, IfRefused, IsMadeTold, RoundToldInPart, RoundsToldInPart, failures, Tick};
 
 use super::Lab;
 use crate::event::Event;
@@ -25,43 +25,13 @@ impl<S: RouteStore> Lab<S> {
         match self.running.stations.get(router) {
             Some(station) => {
                 let router = station.router();
-                let now = later(router.last(), now);
-                router.regular().reached(now)
+                router.regular().reached(later(router.last(), now))
             }
             None => false,
         }
     }
 
-    /// Each router ticks, in order, each when its regular update is due.
-    fn tick_all<V: Observer<S>>(
-        &mut self,
-        number: usize,
-        round: &Round<'_>,
-        watch: &mut V,
-    ) -> Result<(), Stopped<RoundsRefused, V::Fault>>
-        requires { length round.now.ticks ≡ length self.old.network }
-        ensures network { self.new.network ≡ self.old.network }
-        ensures ticked { OnOk result (WatchedRun V.takes due self.old.network (self.old.world, watch.old) (ticks_of round.entry.now.ticks) (self.new.world, watch.new)) }
-        ensures told { IfErr result (λ why. WatchedInPart V.takes V.fails (failures why) self.old.network (self.old.world, watch.old) (ticks_of round.entry.now.ticks) (self.new.world, watch.new)) }
-        ensures number { IfErr result (λ why. IfRefused why (λ refusal. round_in refusal ≡ number)) }
-        ensures refused { IfErr result (λ why. RoundStops self.old.network self.old.world round.entry.now why self.new.world) }
-    {
-        for (router, tick) in round.ticks.iter().enumerate() {
-            let (now, word) = *tick;
-            if !self.is_due(router, now) {
-                return Err(Stopped::Refused(RoundsRefused::NoRegularUpdate {
-                    round: number,
-                    router,
-                }));
-            }
-            if let Err(stopped) = self.step_watched(&Event::Tick { router, now, word }, watch) {
-                return Err(stopped.refused_as(RoundsRefused::OutOfMemory { round: number }));
-            }
-        }
-        Ok(())
-    }
-
-    /// A round is made as it is asked for.
+    /// A round is made as it is asked for: each router ticks, in order, each when its regular update is due, and then all arrives.
     fn make_round<V: Observer<S>>(
         &mut self,
         number: usize,
@@ -76,29 +46,22 @@ impl<S: RouteStore> Lab<S> {
         ensures refused { IfErr result (λ why. RoundStops self.old.network self.old.world round.entry.now why self.new.world) }
     {
         let first = self.sent().len();
-        self.tick_all(number, round, watch)?;
+        for (router, tick) in round.ticks.iter().enumerate() {
+            let (now, word) = *tick;
+            if !self.is_due(router, now) {
+                return Err(Stopped::Refused(RoundsRefused::NoRegularUpdate {
+                    round: number,
+                    router,
+                }));
+            }
+            if let Err(stopped) = self.step_watched(&Event::Tick { router, now, word }, watch) {
+                return Err(stopped.refused_as(RoundsRefused::OutOfMemory { round: number }));
+            }
+        }
         match self.deliver_asked(first, round.picks, round.rest, watch) {
             Ok(()) => Ok(()),
             Err(stopped) => Err(stopped.refused_as(RoundsRefused::OutOfMemory { round: number })),
         }
-    }
-
-    /// Rounds are made one after another, until one is refused.
-    fn make_rounds<V: Observer<S>>(
-        &mut self,
-        rounds: &[Round<'_>],
-        watch: &mut V,
-    ) -> Result<(), Stopped<RoundsRefused, V::Fault>>
-        requires { All (λ r. length r.ticks ≡ length self.old.network) rounds.now }
-        ensures network { self.new.network ≡ self.old.network }
-        ensures made { OnOk result (AreMadeTold V.takes self.old.network (self.old.world, watch.old) rounds.entry.now (self.new.world, watch.new)) }
-        ensures told { IfErr result (λ why. RoundsToldInPart V.takes V.fails (failures why) self.old.network (self.old.world, watch.old) rounds.entry.now (self.new.world, watch.new)) }
-        ensures refused { IfErr result (λ why. RoundsStop self.old.network self.old.world rounds.entry.now why self.new.world) }
-    {
-        for (number, round) in rounds.iter().enumerate() {
-            self.make_round(number, round, watch)?;
-        }
-        Ok(())
     }
 
     /// Rounds are made one after another, each as it is asked for. No router may be passive. From a cold start k rounds find the
@@ -147,9 +110,14 @@ impl<S: RouteStore> Lab<S> {
     {
         // The lab is opened, so that what holds of it is known before the first round.
         let _ = &self.running;
-        let outcome = self.make_rounds(rounds, watch);
-        // The lab is opened, so that what holds of it is known.
+        for (number, round) in rounds.iter().enumerate() {
+            if let Err(stopped) = self.make_round(number, round, watch) {
+                // So it is here, and at the end.
+                let _ = &self.running;
+                return Err(stopped);
+            }
+        }
         let _ = &self.running;
-        outcome
+        Ok(())
     }
 }

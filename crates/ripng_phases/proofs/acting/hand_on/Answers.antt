@@ -12,8 +12,8 @@ use Rattle.ripng_phases.proofs.Handing.{none_handed, one_handed, stops_at}
 use Rattle.ripng_phases.proofs.Outcomes.{goes_handed, handed_in_part, stops_here}
 use Rattle.ripng_phases.proofs.acting.hand_on.Goals as goal
 
-pub returns-in-Err-clause-goes : goal.returns-in-Err-clause-goes
-returns-in-Err-clause-goes g c =
+pub returns-in_default-clause-goes : goal.returns-in_default-clause-goes
+returns-in_default-clause-goes g c =
     stops_here g.V.Observer.takes g.V.Observer.fails ⊤ OutOfMemory (c.args.lab.now, c.args.watch.now) c.args.course.now c.args.course.now (λ begin ends inside. tt)
 
 pub loop-router-init : goal.loop-router-init

@@ -1,6 +1,6 @@
 use Rattle.std.proofs.Common.{Err, length, ap, sym, ◌∙◌}
 use Rattle.std.proofs.lemmas.Bool.{false≢true}
-use Rattle.ripng_phases.specs.declared.course.Update.{Update}
+use Rattle.ripng_phases.specs.declared.acting.Update.{Update}
 use Rattle.ripng_phases.proofs.Going.{announced, nudged}
 use Rattle.ripng_phases.proofs.Outcomes.{goes_handed, goes_nudged}
 use Rattle.ripng_phases.proofs.acting.tick.Goals as goal

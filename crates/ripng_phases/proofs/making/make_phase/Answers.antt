@@ -1,7 +1,7 @@
 use Rattle.std.proofs.Common.{◌≡◌, ◌⊎◌, ℕ, ◌<◌, ◌≤◌, ◌^◌, List, Option, Some, length, slice_get, sym, subst, ◌∙◌, ap, arith}
 use Rattle.ripng_world.specs.Network.{Network}
 use Rattle.ripng_phases.specs.Making.{IsUnderway}
-use Rattle.ripng_phases.specs.declared.course.Update.{Update}
+use Rattle.ripng_phases.specs.declared.acting.Update.{Update}
 use Rattle.ripng_phases.specs.declared.refused.PhaseRefused.TheVariants.{OutOfMemory, PastLastMoment}
 use Rattle.ripng_phases.proofs.Outcomes.{begins, is_over, makes_handed, not_begun, not_new, some_new}
 use Rattle.ripng_phases.proofs.making.make_phase.Goals as goal

@@ -1,5 +1,5 @@
 use Rattle.std.proofs.Common.{length, refl, ap, ◌∙◌}
-use Rattle.ripng_phases.specs.declared.course.Course.{Course}
+use Rattle.ripng_phases.specs.declared.acting.Course.{Course}
 use Rattle.ripng_phases.proofs.Going.{waits}
 use Rattle.ripng_phases.proofs.Outcomes.{goes_handed}
 use Rattle.ripng_phases.proofs.making.make_turns.Goals as goal

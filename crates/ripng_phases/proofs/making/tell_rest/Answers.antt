@@ -1,8 +1,8 @@
 use Rattle.std.proofs.Common.{◌≡◌, ◌⊎◌, inl, inr, ℕ, ◌<◌, ◌≤◌, ◌^◌, Some, length, slice_get, refl, ap, sym, subst, ◌∙◌, arith}
 use Rattle.std.specs.Prelude.{⊤}
 use Rattle.ripng_world.specs.Labs.{LabValue}
-use Rattle.ripng_phases.specs.declared.course.Course.{Course}
-use Rattle.ripng_phases.specs.declared.course.Update.{Update}
+use Rattle.ripng_phases.specs.declared.acting.Course.{Course}
+use Rattle.ripng_phases.specs.declared.acting.Update.{Update}
 use Rattle.ripng_phases.specs.declared.refused.PhaseRefused.TheVariants.{NoUpdateInTime}
 use Rattle.ripng_phases.proofs.Handing.{next_of}
 use Rattle.ripng_phases.proofs.Outcomes.{goes_handed, stops_here, waits_until}

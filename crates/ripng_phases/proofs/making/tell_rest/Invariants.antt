@@ -1,7 +1,7 @@
 use Rattle.std.proofs.Common.{◌≡◌, ℕ, ◌<◌, Ok, Some, length, slice_get}
 use Rattle.std.specs.Prelude.{⊤}
 use Rattle.ripng_phases.specs.Making.{GoesOn}
-use Rattle.ripng_phases.specs.declared.course.Update.{Update}
+use Rattle.ripng_phases.specs.declared.acting.Update.{Update}
 use Rattle.ripng_phases.proofs.making.tell_rest.Given as goal
 
 abbrev pub invariant-loop-router : goal.invariant-loop-router

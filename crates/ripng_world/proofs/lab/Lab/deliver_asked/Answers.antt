@@ -3,7 +3,7 @@ use Rattle.ripng_world.specs.AskedRounds.{deliveries_of, is_picked, other_delive
 use Rattle.ripng_world.specs.Watching.{HeardInPart, WatchedRun, heard}
 use Rattle.ripng_world.specs.Labs.{LabValue}
 use Rattle.ripng_world.specs.World.{World}
-use Rattle.ripng_world.specs.declared.pairs.Pair.{Pair}
+use Rattle.ripng_world.specs.declared.lab.delivering.Pair.{Pair}
 use Rattle.ripng_world.specs.declared.watch.Stopped.TheVariants.{Refused}
 use Rattle.ripng_world.proofs.AskedSynchronous.{on_ok}
 use Rattle.ripng_world.proofs.Delivered.{asked_all, asked_stop, none_heard, part_more}

@@ -2,7 +2,7 @@ use Rattle.std.proofs.Common.{ℕ, Bool, get_or, false, ap, refl, ◌∙◌}
 use Rattle.std.proofs.lemmas.List.{get_or_default}
 use Rattle.ripng_world.specs.Labs.{LabValue}
 use Rattle.ripng_world.specs.World.{World}
-use Rattle.ripng_world.specs.declared.pairs.Pair.{Pair}
+use Rattle.ripng_world.specs.declared.lab.delivering.Pair.{Pair}
 use Rattle.ripng_world.proofs.Delivered.{others_next, others_skip, others_stop}
 use Rattle.ripng_world.proofs.Watched.{handed_on}
 use Rattle.ripng_world.proofs.lab.Lab.deliver_others.Goals.{then-not-picked-place+in_ok-deliver, else-not-picked-place}

@@ -5,7 +5,7 @@ use Rattle.std.proofs.lemmas.Nat.{mod_below}
 use Rattle.std.proofs.lemmas.Option.{slice_get-get_or}
 use Rattle.ripng_world.specs.Watching.{WatchedRun, heard}
 use Rattle.ripng_world.specs.World.{Event}
-use Rattle.ripng_world.specs.declared.pairs.Pair.{Pair}
+use Rattle.ripng_world.specs.declared.lab.delivering.Pair.{Pair}
 use Rattle.ripng_world.specs.declared.watch.Stopped.TheVariants.{Refused}
 use Rattle.ripng_world.proofs.Delivered.{none_heard, picked_next, picked_stop}
 use Rattle.ripng_world.proofs.Watched.{handed_on}

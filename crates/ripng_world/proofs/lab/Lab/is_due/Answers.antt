@@ -33,7 +33,7 @@ returns-in-Some-clause-there g c = λ within. (state g c, here g c)
 
 pub returns-in-Some-clause-due : goal.returns-in-Some-clause-due
 returns-in-Some-clause-due g c = λ word.
-    let later : c.later-now.result ≡ max (state g c).last c.args.now = c.later-now.ensures ∙ ap (λ (m : ℕ). max m c.args.now) c.last.ensures in (
+    let later : c.later.result ≡ max (state g c).last c.args.now = c.later.ensures ∙ ap (λ (m : ℕ). max m c.args.now) c.last.ensures in (
       (λ due. (state g c, here g c, omega (arith, c.reached.ensures.0 due, c.regular.ensures, later))),
       (λ due.
           let by : (state g c).regular ≤ max (state g c).last c.args.now = subst (λ (s : State). s.regular ≤ max s.last c.args.now) (Some-same due.0 (state g c) (sym due.1 ∙ here g c)) due.2 in

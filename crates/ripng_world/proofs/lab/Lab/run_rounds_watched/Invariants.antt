@@ -1,6 +1,6 @@
 use Rattle.std.proofs.Common.{◌≡◌, take}
 use Rattle.ripng_world.specs.Watching.{AreMadeTold}
-use Rattle.ripng_world.proofs.lab.Lab.make_rounds.Given as goal
+use Rattle.ripng_world.proofs.lab.Lab.run_rounds_watched.Given as goal
 
 abbrev pub invariant-loop-number : goal.invariant-loop-number
 invariant-loop-number g l = record {

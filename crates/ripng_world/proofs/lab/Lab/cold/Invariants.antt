@@ -3,7 +3,7 @@ use Rattle.std.specs.Vec.{vec_capacity}
 use Rattle.std.specs.Vec.Iter.{into_iter_items}
 use Rattle.ripng_world.specs.Stations.{network_of}
 use Rattle.ripng_world.specs.World.{StartsFrom}
-use Rattle.ripng_world.proofs.lab.start_all.Given as goal
+use Rattle.ripng_world.proofs.lab.Lab.cold.Given as goal
 
 abbrev pub invariant-loop-router : goal.invariant-loop-router
 invariant-loop-router g l = record {

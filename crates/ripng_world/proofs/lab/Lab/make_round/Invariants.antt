@@ -1,7 +1,7 @@
 use Rattle.std.proofs.Common.{◌≡◌, take}
 use Rattle.ripng_world.specs.AskedRounds.{ticks_of}
 use Rattle.ripng_world.specs.Watching.{WatchedRun, due}
-use Rattle.ripng_world.proofs.lab.Lab.tick_all.Given as goal
+use Rattle.ripng_world.proofs.lab.Lab.make_round.Given as goal
 
 abbrev pub invariant-loop-router : goal.invariant-loop-router
 invariant-loop-router g l = record {
