@@ -3,11 +3,12 @@ pub use Rattle.std.specs.List.{enumerate_from, list_any, range_with_len, AllByRe
 pub use Rattle.std.specs.Option.{option_map_or}
 pub use Rattle.std.specs.Result.{result_err}
 pub use Rattle.prefix6.specs.Addr.{is_link_local}
-pub use Rattle.prefix6.specs.Prefix.{Prefix6, prefix_cmp, IsPrefix, is_routable, Holds, cleared}
+pub use Rattle.prefix6.specs.Prefix.{Prefix6, IsPrefix, is_routable, Holds, cleared}
 pub use Rattle.ripng_wire.specs.Layout.{Spells}
 pub use Rattle.ripng_wire.specs.Wire.{first_reason, is_response}
 pub use Rattle.ripng_wire.specs.declared.rte.Command.TheVariants.{Response}
 pub use Rattle.ripng_wire.specs.declared.rte.Rte.{Rte}
+pub use Rattle.route_table.specs.Coding.{coded_table}
 pub use Rattle.route_table.specs.Route.{RouteValue, infinity}
 pub use Rattle.route_table.specs.Table.{Table, table_limit}
 pub use Rattle.route_table.specs.declared.route.Origin.{Origin}

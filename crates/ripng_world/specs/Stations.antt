@@ -1,10 +1,8 @@
 -- Routers of a network at their places.
 use Rattle.std.specs.Prelude.{◌≡◌, ℕ, ◌<◌, ◌*◌, ◌/◌, max, ⊤, List, [], ◌∷◌, ◌++◌, map, length, Some, slice_get, slice_set}
-use Rattle.ripng_world.specs.Below.{prefix_cmp, Table, State, Happening, Arrives, Ticks, Restarts, Reconfigures, ShutsDown, LinkGoesDown, LinkComesUp, Moves, Answer, Change, Sent}
+use Rattle.ripng_world.specs.Below.{coded_table, State, Happening, Arrives, Ticks, Restarts, Reconfigures, ShutsDown, LinkGoesDown, LinkComesUp, Moves, Answer, Change, Sent}
 use Rattle.std.specs.FinMap as map_of
-use Rattle.std.specs.Coded.{Coded, codes}
-use Rattle.prefix6.specs.contracts.prefix.Prefix as prefix
-use Rattle.route_table.specs.contracts.route.Route as route
+use Rattle.std.specs.Coded.{codes}
 use Rattle.ripng_world.specs.Network.{Network, Node}
 use Rattle.ripng_world.specs.Rounds.{router_of}
 use Rattle.ripng_world.specs.World.{World, Event, Happens, reconfigurations_in, sent_by}
@@ -15,9 +13,6 @@ pub record StationValue : Type 0 where
   pub state : State
 
 -- how tables are coded, and all that is made of them
-abbrev pub coded_table : Coded Table
-coded_table = map_of.code {R = prefix_cmp} prefix.the_row.coded route.the_row.coded
-
 pub ruleset coded_states = (codes, coded_table)
 
 -- the network of these routers
