@@ -9,6 +9,7 @@ pub use Rattle.router_core.specs.declared.answer.Answer.{Answer}
 pub use Rattle.router_core.specs.declared.answer.Destination.{Destination}
 pub use Rattle.router_core.specs.declared.answer.Destination.TheVariants.{Group, Peer}
 pub use Rattle.ripng_world.specs.AskedRounds.{is_other}
+pub use Rattle.ripng_world.specs.Events.{event_of}
 pub use Rattle.ripng_world.specs.Labs.{LabValue, link_at}
 pub use Rattle.ripng_world.specs.Lying.{Lies}
 pub use Rattle.ripng_world.specs.Rounds.{router_of}
@@ -33,7 +34,7 @@ pub use Rattle.ripngd_lab.specs.declared.plan.Outages.{Outages}
 pub use Rattle.ripngd_lab.specs.declared.plan.Ticking.{Ticking}
 pub use Rattle.ripngd_lab.specs.declared.plan.Ticking.TheVariants.{Nobody, One, All, Due}
 pub use Rattle.ripngd_lab.specs.declared.plan.Wave.{Wave}
+pub use Rattle.ripngd_lab.specs.declared.printer.Notice.{Notice}
 pub use Rattle.ripngd_lab.specs.declared.stop.Refusal.TheVariants.{Outage, Phases}
 pub use Rattle.ripngd_lab.specs.declared.stop.Stop.{Stop}
 pub use Rattle.ripngd_lab.specs.declared.stop.Stop.TheVariants.{Refused, Failed, Unmet}
-pub use Rattle.ripngd_lab.specs.declared.watching.Notice.{Notice}

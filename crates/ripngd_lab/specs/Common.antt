@@ -1,13 +1,12 @@
 -- The names that the clauses of this crate cite, passed on from one place. Declares nothing.
-pub use Rattle.ripng_world.specs.Events.{event_of}
 pub use Rattle.ripng_world.specs.Labs.{HappensGiving}
 pub use Rattle.ripng_world.specs.Packets.{forwardings_of}
 pub use Rattle.ripng_world.specs.Path.{IsPath}
 pub use Rattle.ripng_world.specs.Watching.{WatchedInPart, failures}
 pub use Rattle.ripng_phases.specs.Making.{HealsIn}
-pub use Rattle.ripngd_lab.specs.Asides.{aside_of, Broken, Prints, Aside, Lie, NextLine}
+pub use Rattle.ripngd_lab.specs.Asides.{aside_of, Broken, Prints, Aside, NextLine}
 pub use Rattle.ripngd_lab.specs.Expecting.{HasMissed, fate_of, metric_at}
 pub use Rattle.ripngd_lab.specs.Phasing.{AllTakePart, AreMadeAndCounted, IsStopAt, StopsPhases}
-pub use Rattle.ripngd_lab.specs.Plans.{brings_lost, is_lost, with_member, addr_at, all_ticks, first_of, is_cut, is_silent, reaches, ticks_of}
+pub use Rattle.ripngd_lab.specs.Plans.{brings_lost, with_member, addr_at, all_ticks, first_of, is_silent, reaches, ticks_of}
 pub use Rattle.ripngd_lab.specs.ScriptWatching.{HasTold, IsToldOfLab, IsToldUntil, StartsAt, has_failed, lab_in}
-pub use Rattle.ripngd_lab.specs.Below.{LabValue}
+pub use Rattle.ripngd_lab.specs.Below.{LabValue, event_of}

@@ -4,13 +4,12 @@ ghost use Rattle.std.specs.Prelude.{◌≡◌, ◌<◌, ◌++◌, ◌∷◌, [],
 ghost use Rattle.ripngd_lab.specs.Common.{Prints, aside_of, with_member, HasTold};
 
 use crate::forms::{Action, Step};
-use crate::horizon::{Horizons, set_horizon};
 use crate::moving::make_phases;
 use crate::plan::{Ticking, set_member};
 use crate::site::{Held, Site};
 use crate::{
-    Expected, Line, Missed, Notice, Outages, Outcome, Refusal, Routes, Stop, Unmet, Watch, Way,
-    meet,
+    Expected, Horizon, Line, Missed, Notice, Outages, Outcome, Refusal, Routes, Stop, Unmet, Watch,
+    Way, meet,
 };
 use prefix6::Prefix;
 use ripng_world::{Event, Lab, LabError};
@@ -25,7 +24,8 @@ pub struct Course {
     /// The number of the first datagram that was not passed by: the next line `hear` delivers from there on.
     pub unheard: usize,
     pub outages: Outages,
-    pub horizons: Horizons,
+    /// The routers with another horizon than RIPng's.
+    pub horizons: Vec<(usize, Horizon)>,
 }
 
 impl Course {
@@ -114,8 +114,7 @@ impl Course {
     fn go_round<V: Watch>(&mut self, line: &Line<'_>, watch: &mut V) -> Outcome
         ensures { HasTold result V.starts V.takes V.fails V.notes (Some self.old.site, watch.old) (Some self.new.site, watch.new) }
     {
-        let moments = line.moments(self.alloc)?;
-        self.make_rounds(&moments, watch)?;
+        self.make_rounds(line, watch)?;
         self.unheard = self.sent();
         self.tell(Notice::Rounds(line.count), watch)
     }
@@ -138,7 +137,7 @@ impl Course {
         ensures lost { OnOk result (self.new.outages.lost.items ≡ self.old.outages.lost.items ++ datagram ∷ []) }
     {
         check_named(Some(datagram), self.sent(), LabError::NoSuchDatagram)?;
-        if self.outages.is_lost(datagram) {
+        if self.outages.lost.contains(&datagram) {
             return Err(Stop::Refused(Refusal::DatagramLost));
         }
         self.outages.lost.push(datagram)?;
@@ -150,7 +149,10 @@ impl Course {
         ensures { HasTold result V.starts V.takes V.fails V.notes (Some self.old.site, watch.old) (Some self.new.site, watch.new) }
     {
         let (router, horizon) = (line.router, line.horizon);
-        set_horizon(&mut self.horizons, router, horizon)?;
+        self.horizons.retain(|(other, _)| *other != router);
+        if horizon != Horizon::Poison {
+            self.horizons.push((router, horizon))?;
+        }
         self.tell(Notice::Horizon { router, horizon }, watch)
     }
 

@@ -120,16 +120,16 @@ impl Way {
 fn obstacle_on(lab: &Network, outages: &Outages, from: usize, path: &Path) -> Option<Obstacle> {
     let mut router = from;
     for hop in path.hops.iter() {
-        if outages.is_silent(router) {
+        if outages.silent.contains(&router) {
             break;
         }
         if let Some(link) = lab.link(router, hop.iface)
-            && outages.is_cut(link)
+            && outages.cut.contains(&usize::from(link))
         {
             return Some(Obstacle::CutLink { router, link });
         }
         router = hop.router;
     }
-    let is_silent = outages.is_silent(router);
+    let is_silent = outages.silent.contains(&router);
     is_silent.then_some(Obstacle::SilentRouter { router })
 }

@@ -62,8 +62,8 @@ pub enum Step {
     Drop,
 }
 
-/// The forms. A word in capitals is a part, and `..` at the end repeats K. If a line leaves several forms at the same word, the first
-/// is the one that a hint names.
+/// The forms. A word in capitals is a part, and K at the end is one word or more. If a line leaves several forms at the same word, the
+/// first is the one that a hint names.
 pub const FORMS: [(&str, Verb); 49] = [
     ("router NAME", Verb::Router(false)),
     ("router quiet NAME", Verb::Router(true)),
@@ -84,11 +84,11 @@ pub const FORMS: [(&str, Verb); 49] = [
     ("liar R I NOW SOURCE PREFIX HOPS", Verb::Forge),
     ("tick R NOW WORD", Verb::Act(Action::Step(Step::Tick))),
     ("tick R NOW", Verb::Act(Action::Step(Step::Tick))),
-    ("tell R NOW WORD but K ..", Verb::Act(Action::Tell)),
+    ("tell R NOW WORD but K", Verb::Act(Action::Tell)),
     ("tell R NOW WORD", Verb::Act(Action::Tell)),
-    ("tell R NOW but K ..", Verb::Act(Action::Tell)),
+    ("tell R NOW but K", Verb::Act(Action::Tell)),
     ("tell R NOW", Verb::Act(Action::Tell)),
-    ("hear but K ..", Verb::Act(Action::Hear)),
+    ("hear but K", Verb::Act(Action::Hear)),
     ("hear", Verb::Act(Action::Hear)),
     ("restart R NOW", Verb::Act(Action::Step(Step::Restart))),
     ("shutdown R NOW", Verb::Act(Action::Step(Step::Shutdown))),

@@ -167,15 +167,12 @@ fn counted(alloc: Global, count: usize, what: &str) -> Hint {
     }
 }
 
-/// What is wrong with the word at a place of a line. Where a form repeats its last part, that is K.
+/// What is wrong with the word at a place of a line. Where a form has no more parts, it is one more K.
 fn hint_of_word(alloc: Global, line: &str, form: usize, place: usize, wrong: Wrong) -> Hint {
     let verb = first_word(line);
     let word = line.split(' ').nth(place).unwrap_or("");
     let words = words_of_form(form);
-    let part = match words.split(' ').nth(place) {
-        Some("..") | None => "K",
-        Some(part) => part,
-    };
+    let part = words.split(' ').nth(place).unwrap_or("K");
     let (what, is) = match meaning(part) {
         "" => ("it", part),
         meaning => (part, meaning),

@@ -27,9 +27,6 @@ pub const HORIZONS: [(&str, Horizon); 3] = [
     ("poison", Horizon::Poison),
 ];
 
-/// The routers with another horizon than RIPng's.
-pub type Horizons = Vec<(usize, Horizon)>;
-
 /// A Response that comes in place of a datagram.
 #[derive(Drop)]
 pub struct Advert {
@@ -40,15 +37,6 @@ pub struct Advert {
     source: Addr6,
     /// Its bytes; nothing comes if there are none.
     pub bytes: Vec<u8>,
-}
-
-/// A router has that horizon from now on.
-pub fn set_horizon(horizons: &mut Horizons, of: usize, horizon: Horizon) -> Result<(), AllocError> {
-    horizons.retain(|(other, _)| *other != of);
-    if horizon != Horizon::Poison {
-        horizons.push((of, horizon))?;
-    }
-    Ok(())
 }
 
 impl Advert {

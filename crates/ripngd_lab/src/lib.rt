@@ -14,7 +14,6 @@ mod printer;
 mod script;
 mod site;
 mod stop;
-mod watching;
 
 use context::Context;
 use course::Course;
@@ -26,9 +25,8 @@ use line::Line;
 pub use moving::MadePhases;
 use plan::Outages;
 pub use plan::addr_at;
-pub use printer::{Ending, Named, Names, Printer, names_of, print_unmet};
+pub use printer::{Ending, Named, Names, Notice, Printer, Watch, names_of, print_unmet};
 pub use script::{lab, watched};
 pub use site::{Network, Routes};
 use stop::{Outcome, Stop};
 pub use stop::{Refusal, RefusalName, Unmet};
-pub use watching::{Notice, Watch};

@@ -44,7 +44,7 @@ pub struct Line<'a> {
     to_group: bool,
     command: Command,
     pub word: u32,
-    gap: u64,
+    pub gap: u64,
     pub seed: u64,
     pub metric: Option<u8>,
     pub fate: Fate,
@@ -63,7 +63,7 @@ pub fn read_line<'a>(text: &'a str, context: &mut Context) -> Result<Line<'a>, B
     let mut bad = BadLine::Unknown;
     let mut last = context.last;
     for (form, (words, verb)) in FORMS.iter().enumerate() {
-        let mut line = Line::new(*verb, context.last);
+        let mut line = Line::new(*verb, context);
         let Err(wrong) = line.follow(words, text, context) else {
             context.last = line.last;
             return Ok(line);
@@ -81,12 +81,7 @@ pub fn read_line<'a>(text: &'a str, context: &mut Context) -> Result<Line<'a>, B
 
 impl<'a> Line<'a> {
     /// No word was read yet.
-    fn new(verb: Verb, last: Option<Moment>) -> Line<'a> {
-        let zero = Moment::new(0).unwrap();
-        let now = match last {
-            Some(last) => last,
-            None => zero,
-        };
+    fn new(verb: Verb, context: &Context) -> Line<'a> {
         Line {
             verb,
             text: "",
@@ -97,7 +92,7 @@ impl<'a> Line<'a> {
             prefix: Prefix::new(Addr6::from_bits(0), 0).unwrap(),
             tag: 0,
             count: 1,
-            now,
+            now: context.last.unwrap_or(Moment::new(0).unwrap()),
             datagram: 0,
             router: 0,
             iface: 0,
@@ -112,7 +107,7 @@ impl<'a> Line<'a> {
             fate: Fate::Arrives,
             horizon: Horizon::Poison,
             refusal: None,
-            last,
+            last: context.last,
             place: 0,
         }
     }
@@ -121,9 +116,6 @@ impl<'a> Line<'a> {
     fn follow(&mut self, form: &str, text: &'a str, context: &Context) -> Result<(), Wrong> {
         let mut rest = Some(text);
         for part in form.split(' ') {
-            if part == ".." {
-                break;
-            }
             let left = rest.ok_or(Wrong::Missing)?;
             let (word, more) = match left.split_once(' ') {
                 Some((word, more)) if part != "K" && part != "TEXT" => (word, Some(more)),
@@ -248,14 +240,6 @@ impl<'a> Line<'a> {
             moment: self.now,
             lost: self.text,
         }
-    }
-
-    /// The times of rounds.
-    pub fn moments(&self, alloc: Global) -> Result<Vec<Moment>, AllocError> {
-        let rounds = 0..self.count as u64;
-        rounds
-            .map(|round| moment_after(self.now, self.gap, round).unwrap_or(self.now))
-            .collect(alloc)
     }
 
     /// A datagram of an outside host, with these bytes, as it arrives. If the line does not say otherwise, it comes as a Response of

@@ -1,14 +1,14 @@
 //! What moves a network, with a report to the observer of the script: an event, a forged Response, waves of plans, rounds, and phases:
 //! stretches of a minute, by chance, in which all that matters gets through once, with no rounds.
 
-ghost use Rattle.std.specs.Prelude.{◌≡◌, All, IfErr, IfOk, OnOk, Some, length};
+ghost use Rattle.std.specs.Prelude.{◌≡◌, IfErr, OnOk, Some};
 ghost use Rattle.ripngd_lab.specs.Common.{HealsIn, AllTakePart, AreMadeAndCounted, IsStopAt, StopsPhases, HasTold};
 
 use crate::context::{OrNone, moment_after};
 use crate::horizon::Advert;
 use crate::plan::{Ticking, Wave};
 use crate::site::Held;
-use crate::{BadLine, Course, Notice, Outages, Outcome, Refusal, Routes, Stop, Watch};
+use crate::{BadLine, Course, Line, Notice, Outages, Outcome, Refusal, Routes, Stop, Watch};
 use rand_core::SeedableRng;
 use rand_pcg::Pcg32;
 use ripng_phases::{PhaseRefused, run_phases};
@@ -26,9 +26,6 @@ const PHASE_MS: u64 = 60_000;
 
 /// The last moment that there is, in milliseconds.
 const LAST_MS: u64 = 1 << 60;
-
-/// The time of a round, and the time and the word of each router's tick, in order.
-type Ticks = (Moment, Vec<(Moment, u32)>);
 
 /// What became of a line of phases.
 #[derive(Clone, Copy, Debug, PartialEq, Eq)]
@@ -75,7 +72,8 @@ impl Course {
         let first = running.sent().len();
         let answer = running.lie(router, &arrival)?;
         let event = Event::Stranger { router, arrival };
-        Ok(watch.lied(running, &event, &answer, first, sender)?)
+        let lab = self.site.running();
+        Ok(watch.noticed(Notice::Lied(lab, &event, &answer, first, sender))?)
     }
 
     /// A wave is made: its ticks, and then its deliveries. What was sent before these is passed by from then on.
@@ -130,27 +128,27 @@ impl Course {
     ) -> Outcome
         ensures { HasTold result V.starts V.takes V.fails V.notes (Some self.old.site, watch.old) (Some self.new.site, watch.new) }
     {
-        let Some(advert) = advert else {
-            return self.step(event, watch);
-        };
-        if advert.bytes.is_empty() {
-            return Ok(());
-        }
-        match advert.accepted(self.site.running(), event) {
-            Some(arrival) => self.lie(event.router(), arrival, Some(advert.router), watch),
+        match advert {
+            Some(advert) if advert.bytes.is_empty() => Ok(()),
+            Some(advert) => match advert.accepted(self.site.running(), event) {
+                Some(arrival) => self.lie(event.router(), arrival, Some(advert.router), watch),
+                None => self.step(event, watch),
+            },
             None => self.step(event, watch),
         }
     }
 
-    /// A round at each of these times: every router ticks in order, with the word 0, when its regular update is due, and what these ticks
+    /// A round at each time of a line: every router ticks in order, with the word 0, when its regular update is due, and what these ticks
     /// sent is delivered as in one round alone. With outages, and after a forged Response, nothing is promised of them.
-    pub fn make_rounds<V: Watch>(&mut self, moments: &[Moment], watch: &mut V) -> Outcome
+    pub fn make_rounds<V: Watch>(&mut self, line: &Line<'_>, watch: &mut V) -> Outcome
         ensures { HasTold result V.starts V.takes V.fails V.notes (Some self.old.site, watch.old) (Some self.new.site, watch.new) }
     {
+        let at = |round: u64| moment_after(line.now, line.gap, round).unwrap_or(line.now);
+        let moments: Vec<Moment> = (0..line.count as u64).map(at).collect(self.alloc)?;
         if self.outages.are_none()
             && let Held::Lawful(lab) = &mut self.site.held
         {
-            return make_whole_rounds(self.alloc, lab, moments, watch);
+            return make_whole_rounds(self.alloc, lab, &moments, watch);
         }
         for (round, now) in moments.iter().enumerate() {
             let wave = Wave {
@@ -173,7 +171,10 @@ fn make_whole_rounds<V: Watch>(
 ) -> Outcome
     ensures { HasTold result V.starts V.takes V.fails V.notes (Some lab.old, watch.old) (Some lab.new, watch.new) }
 {
-    let ticks = ticks_at(alloc, lab.routers(), moments)?;
+    let (mut ticks, routers) = (Vec::new(alloc), lab.routers());
+    for now in moments {
+        ticks.push((*now, vec![in alloc; (*now, 0); routers]?))?;
+    }
     let rounds = ticks.iter().map(|(now, ticks)| Round {
         ticks,
         picks: &[],
@@ -185,17 +186,6 @@ fn make_whole_rounds<V: Watch>(
         Err(Stopped::Refused(why)) => Err(Stop::from(Refusal::Rounds(why))),
         Err(Stopped::Failed(error)) => Err(Stop::Failed(error)),
     }
-}
-
-/// A tick of each router at each time.
-fn ticks_at(alloc: Global, routers: usize, moments: &[Moment]) -> Result<Vec<Ticks>, AllocError>
-    ensures { IfOk result (λ ticks. All (λ t. length t.1.items ≡ routers) ticks.items) }
-{
-    let mut ticks = Vec::new(alloc);
-    for now in moments {
-        ticks.push((*now, vec![in alloc; (*now, 0); routers]?))?;
-    }
-    Ok(ticks)
 }
 
 /// When so many phases are over of which the first begins at a moment, or the last moment that there is.

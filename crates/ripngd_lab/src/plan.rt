@@ -3,7 +3,7 @@
 //! would do, let no `phases` be, and hold back nothing that a line says of one datagram or of one router; what is lost comes to nobody.
 
 ghost use Rattle.std.specs.Prelude.{◌≡◌, false, true, IfOk, IsFalse, IsTrue, OnErr, OnOk, map};
-ghost use Rattle.ripngd_lab.specs.Common.{event_of, brings_lost, is_lost, AllTakePart, addr_at, all_ticks, first_of, is_cut, is_silent, reaches, ticks_of, with_member};
+ghost use Rattle.ripngd_lab.specs.Common.{event_of, brings_lost, AllTakePart, addr_at, all_ticks, first_of, is_silent, reaches, ticks_of, with_member};
 
 use crate::context::number;
 use crate::{Course, Network, Outcome, Refusal, Stop};
@@ -16,11 +16,11 @@ use std::alloc::{AllocError, Global};
 /// What takes no part.
 #[derive(Drop)]
 pub struct Outages {
-    /// Routers, by number.
+    /// Routers that are silent, by number.
     pub silent: Vec<usize>,
-    /// Links, by number.
+    /// Links that nothing crosses, by number.
     pub cut: Vec<usize>,
-    /// Datagrams, by number.
+    /// Datagrams that are lost, by number.
     pub lost: Vec<usize>,
 }
 
@@ -40,27 +40,13 @@ impl Outages {
         self.silent.iter().any(|silent| *silent == router)
     }
 
-    /// Whether nothing crosses a link.
-    pub fn is_cut(&self, link: u16) -> bool
-        ensures { result ≡ is_cut self.now link }
-    {
-        self.cut.iter().any(|cut| *cut == usize::from(link))
-    }
-
-    /// Whether a datagram is lost.
-    pub fn is_lost(&self, datagram: usize) -> bool
-        ensures { result ≡ is_lost self.now.lost.items datagram }
-    {
-        self.lost.iter().any(|lost| *lost == datagram)
-    }
-
     /// An event brings no datagram that is lost, else `DatagramLost`.
     pub fn check_event(&self, event: &Event<'_>) -> Outcome
         ensures passed { OnOk result (brings_lost self.now.lost.items (event_of event.now) ≡ false) }
         ensures refused { OnErr result (brings_lost self.now.lost.items (event_of event.now) ≡ true) }
     {
         match event {
-            Event::Deliver { datagram, .. } if self.is_lost(*datagram) => {
+            Event::Deliver { datagram, .. } if self.lost.contains(datagram) => {
                 Err(Stop::Refused(Refusal::DatagramLost))
             }
             _ => Ok(()),
@@ -158,12 +144,10 @@ impl<'a> Wave<'a> {
         let (lab, outages) = (course.site.running(), &course.outages);
         let (now, place) = (self.moment, datagram.saturating_sub(first));
         let mut lost = self.lost.split(' ');
-        let Some(sent) = lab.sent().get(datagram) else {
+        let gone = outages.lost.contains(&datagram) || lost.any(|word| number(word) == Ok(place));
+        let Some(sent) = lab.sent().get(datagram).filter(|_| !gone) else {
             return Ok(Vec::new(course.alloc));
         };
-        if outages.is_lost(datagram) || lost.any(|word| number(word) == Ok(place)) {
-            return Ok(Vec::new(course.alloc));
-        }
         let places = 0..lab.routers().saturating_mul(INTERFACE_LIMIT);
         places
             .map(|place| (place / INTERFACE_LIMIT, place % INTERFACE_LIMIT))
@@ -203,8 +187,9 @@ fn reaches(lab: &Network, outages: &Outages, sent: &Sent, router: usize, iface: 
         return false;
     };
     let is_other = own == link && !(router == sent.router && iface == sent.iface);
-    let is_silent = outages.is_silent(sent.router) || outages.is_silent(router);
-    if !is_other || is_silent || outages.is_cut(own) {
+    let silent = &outages.silent;
+    let is_silent = silent.contains(&sent.router) || silent.contains(&router);
+    if !is_other || is_silent || outages.cut.contains(&usize::from(own)) {
         return false;
     }
     match sent.to {
@@ -217,8 +202,6 @@ fn reaches(lab: &Network, outages: &Outages, sent: &Sent, router: usize, iface: 
 pub fn addr_at<S: RouteStore>(lab: &Running<S>, router: usize, iface: usize) -> Option<Addr6>
     ensures { result ≡ addr_at lab.now router iface }
 {
-    match lab.router(router)?.config().interfaces().get(iface) {
-        Some(interface) => Some(interface.addr),
-        None => None,
-    }
+    let interface = lab.router(router)?.config().interfaces().get(iface)?;
+    Some(interface.addr)
 }

@@ -1,13 +1,14 @@
-//! What lines print: the observer of a script that writes it, and the names that a script gives its routers.
+//! The observer of a script, the one that writes what lines print, and the names that a script gives its routers.
 
-ghost use Rattle.std.specs.Prelude.{⊤};
+ghost use Rattle.std.specs.Prelude.{⊤, ℕ, OnErr, OnOk};
+ghost use Rattle.ripngd_lab.specs.Common.{LabValue, Aside, Broken, NextLine, aside_of};
 
 use crate::context::{OrNone, name_of};
 use crate::expecting::FATES;
 use crate::forms::first_word;
 use crate::horizon::HORIZONS;
 use crate::script::words_in;
-use crate::{Horizon, Network, Notice, Obstacle, Refusal, Routes, Unmet, Watch, Way};
+use crate::{Horizon, MadePhases, Network, Obstacle, Refusal, Routes, Unmet, Way};
 use prefix6::Prefix;
 use ripng_world::{Event, PathEnd};
 use route_table::{Moment, Origin, Route, RouteStore};
@@ -15,6 +16,61 @@ use router_core::{Answer, Destination};
 use std::alloc::{AllocError, Global};
 use std::fmt;
 use std::io::{self, Write};
+
+/// What a line did, beside events.
+#[derive(Drop)]
+pub enum Notice<'a> {
+    /// `print` asks for the routes of this router, or of all, to this prefix, or to all.
+    Routes(&'a Network, Option<usize>, Option<&'a Prefix>),
+    /// `sent` asks for the datagram of that number, or for all.
+    Datagrams(&'a Network, Option<usize>),
+    /// `path`: where packets go.
+    Way(Way),
+    /// `say`: its text.
+    Said(&'a str),
+    /// `horizon`: a router has another one from now on.
+    Horizon { router: usize, horizon: Horizon },
+    /// `lose`: the datagram of this number is lost.
+    Lost(usize),
+    /// `rounds`: so many were made.
+    Rounds(usize),
+    /// `phases`: how many were made, and in which of them tables last changed.
+    Phases(MadePhases),
+    /// A forged Response came, as the datagram of an outside host, and left the network like this. The answer is that of the router; its
+    /// sends are the datagrams from the number after it on, and are not in the answer. It came by a line `liar`, or from the router of
+    /// the last number, which is no router of RIPng.
+    Lied(&'a Network, &'a Event<'a>, &'a Answer, usize, Option<usize>),
+    /// The line is refused, and ends the script.
+    Refused(Ending),
+    /// The line expects what is not so, and ends the script.
+    Unmet(Unmet),
+}
+
+/// An observer of a script. It is notified of each thing as soon as that is done, in order; of events as an observer of the network.
+pub trait Watch: ripng_world::Observer<Routes, Fault = io::Error> {
+    // What the start of a lab makes of it: how it was, the lab, the moment, and how it is then.
+    ghost starts: { Self → LabValue → ℕ → Self → Type 0 };
+    // What a notification makes of it that is of no event of the network: how it was, what it is notified of, and how it is then;
+    // and what becomes of it where such a notification, or that of a start, fails.
+    ghost notes: { Self → Aside → Self → Type 0 };
+
+    /// The line of this number, from 1, is next; notifications from now on are of that line.
+    fn at_line(&mut self, number: usize)
+        ensures { notes self.old (NextLine number) self.new };
+
+    /// The line `cold`: all routers have started at this moment.
+    ///
+    /// # Errors
+    /// Of what the observer writes to, or out of memory; so are those below.
+    fn started(&mut self, lab: &Network, now: Moment) -> io::Result<()>
+        ensures starts { OnOk result (starts self.old lab.now now self.new) }
+        ensures broken { OnErr result (notes self.old Broken self.new) };
+
+    /// A line did this, beside events.
+    fn noticed(&mut self, notice: Notice<'_>) -> io::Result<()>
+        ensures notes { OnOk result (notes self.old (aside_of notice.entry) self.new) }
+        ensures broken { OnErr result (notes self.old Broken self.new) };
+}
 
 /// Prints the routes and the datagrams that lines ask for, and the line that is refused or expects what is not so. Of events it
 /// says nothing.
@@ -59,23 +115,14 @@ impl<'a, W: Write> Printer<'a, W> {
             if of.is_none_or(|asked| asked == number)
                 && let Some(router) = lab.router(number)
             {
-                self.print_table(number, router.routes(), to)?;
+                let mut routes = Vec::with_capacity(self.alloc, router.routes().len())?;
+                router.routes().list(&mut routes);
+                for (prefix, route) in &routes {
+                    if to.is_none_or(|asked| asked == prefix) {
+                        self.print_route(number, *prefix, *route)?;
+                    }
+                }
             }
-        }
-        Ok(())
-    }
-
-    /// Writes the routes of one table, to a prefix, or to all.
-    fn print_table(&mut self, of: usize, routes: &Routes, to: Option<&Prefix>) -> io::Result<()> {
-        let mut last = None;
-        for _ in 0..routes.len() {
-            let Some((prefix, route)) = routes.walk(last) else {
-                break;
-            };
-            if to.is_none_or(|asked| *asked == prefix) {
-                self.print_route(of, prefix, route)?;
-            }
-            last = Some(prefix);
         }
         Ok(())
     }
@@ -163,17 +210,6 @@ impl<'a, W: Write> Watch for Printer<'a, W> {
         Ok(())
     }
 
-    fn lied(
-        &mut self,
-        _: &Network,
-        _: &Event<'_>,
-        _: &Answer,
-        _: usize,
-        _: Option<usize>,
-    ) -> io::Result<()> {
-        Ok(())
-    }
-
     fn noticed(&mut self, notice: Notice<'_>) -> io::Result<()> {
         match notice {
             Notice::Routes(lab, router, prefix) => self.print(lab, router, prefix),
@@ -188,7 +224,7 @@ impl<'a, W: Write> Watch for Printer<'a, W> {
                 writeln!(self.out, "{router} horizon {name}: {words}")
             }
             Notice::Said(text) => writeln!(self.out, "{text}"),
-            Notice::Lost(_) | Notice::Rounds(_) => Ok(()),
+            Notice::Lost(_) | Notice::Rounds(_) | Notice::Lied(..) => Ok(()),
             Notice::Phases(made) => writeln!(self.out, "{made}"),
             Notice::Refused(ending) => {
                 self.ending = Some(ending);
@@ -210,9 +246,8 @@ impl<'a, W: Write> Watch for Printer<'a, W> {
 pub fn print_unmet<W: Write>(names: Names<'_>, unmet: &Unmet, out: &mut W) -> io::Result<()> {
     match unmet {
         Unmet::Metric { expected, found } => {
-            let router = names.of(expected.router);
+            let (router, found) = (names.of(expected.router), OrNone(*found));
             let (prefix, metric) = (expected.prefix, OrNone(expected.metric));
-            let found = OrNone(*found);
             write!(out, "expected {router} {prefix} {metric} found {found}")
         }
         Unmet::Fate {
@@ -235,12 +270,9 @@ pub fn print_unmet<W: Write>(names: Names<'_>, unmet: &Unmet, out: &mut W) -> io
     }
 }
 
-/// The names of a script's routers.
+/// The names of a script's routers: that of each router, in order; empty for one without a name.
 #[derive(Clone, Copy, Debug)]
-pub struct Names<'a> {
-    /// That of each router, in order; empty for one without a name.
-    names: &'a [&'a str],
-}
+pub struct Names<'a>(&'a [&'a str]);
 
 /// A router of a script. Its text is its name, or its number if it has none.
 #[derive(Clone, Copy, Debug)]
@@ -252,13 +284,12 @@ pub struct Named<'a> {
 impl<'a> Names<'a> {
     /// These names, as [`names_of`] has them.
     pub fn new(names: &'a [&'a str]) -> Names<'a> {
-        Names { names }
+        Names(names)
     }
 
     /// The router of that number.
     pub fn of(self, router: usize) -> Named<'a> {
-        let name = self.names.get(router).copied();
-        let name = name.filter(|name| !name.is_empty());
+        let name = self.0.get(router).copied().filter(|name| !name.is_empty());
         Named { name, router }
     }
 }

@@ -297,11 +297,8 @@ pub fn list(alloc: Global, nodes: &mut Vec<Node>, line: &Line<'_>) -> Outcome {
         Verb::Interface => {
             let (addr, cost, mtu, link) = (line.addr, line.cost, line.mtu, line.link);
             let interface = Interface { addr, cost, mtu };
-            Ok(
-                newest(nodes)?
-                    .interfaces
-                    .push(NetInterface { interface, link })?,
-            )
+            let interface = NetInterface { interface, link };
+            Ok(newest(nodes)?.interfaces.push(interface)?)
         }
         Verb::Prefixes => own(newest(nodes)?, line),
         _ => Ok(()),

@@ -30,17 +30,13 @@ pub struct Site {
 }
 
 impl Model for Site {
-    ghost use Rattle.std.specs.Coded.{codes};
-    ghost use Rattle.std.specs.FinMap as map_of;
-    ghost use Rattle.prefix6.specs.Prefix.{prefix_cmp};
-    ghost use Rattle.prefix6.specs.contracts.prefix.Prefix as prefix;
-    ghost use Rattle.route_table.specs.contracts.route.Route as route;
     ghost use Rattle.ripng_world.specs.Labs.{LabValue};
+    ghost use Rattle.ripng_world.specs.Stations.{coded_states};
     ghost use Rattle.ripngd_lab.specs.Sites.{value_of};
 
     ghost Value = { LabValue };
 
-    ghost coded = { Prim.hlevel (codes, map_of.code {R = prefix_cmp} prefix.the_row.coded route.the_row.coded) };
+    ghost coded = { Prim.hlevel coded_states };
 
     ghost view = { λ s. value_of s.held };
 }

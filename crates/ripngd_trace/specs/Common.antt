@@ -7,7 +7,7 @@ pub use Rattle.json.specs.Tree.{members_tokens}
 pub use Rattle.ripngd_lab.specs.ScriptWatching.{IsToldOfLab, IsToldUntil}
 pub use Rattle.ripngd_trace.specs.Events.{sender_at, sender_said, sent_from, sent_said}
 pub use Rattle.ripngd_trace.specs.Growing.{Grows}
-pub use Rattle.ripngd_trace.specs.Json.{address_of, hex_of, list_of, number_of, option_of, prefix_of, json_of_aside, json_of_change, json_of_due, json_of_event, json_of_fault, json_of_happened, json_of_hint, json_of_hop, json_of_interface, json_of_note, json_of_offer, json_of_origin, json_of_owned, json_of_peer, json_of_reconfigured, json_of_route, json_of_router, json_of_sender, json_of_sent, json_of_start, json_of_stranger, json_of_timers, json_of_update, update_name}
+pub use Rattle.ripngd_trace.specs.Json.{address_of, hex_of, list_of, number_of, option_of, prefix_of, json_of_aside, json_of_change, json_of_due, json_of_event, json_of_fault, json_of_happened, json_of_hint, json_of_hop, json_of_interface, json_of_note, json_of_offer, json_of_origin, json_of_owned, json_of_peer, json_of_route, json_of_router, json_of_sender, json_of_sent, json_of_start, json_of_stranger, json_of_timers, json_of_update, update_name}
 pub use Rattle.ripngd_trace.specs.Lines.{written_as, WritesLess, WritesRecord}
 pub use Rattle.ripngd_trace.specs.Offers.{TellsOffers, is_noted, offer_records, route_after}
 pub use Rattle.ripngd_trace.specs.Reading.{IsTraced, IsTracedUntil}

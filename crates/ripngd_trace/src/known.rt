@@ -255,9 +255,7 @@ fn update_of(lab: &Network, known: &[KnownRouter], event: &Event<'_>) -> Option<
     let &Event::Tick { router, .. } = event else {
         return None;
     };
-    let (Some(before), Some(moved)) = (known.get(router), lab.router(router)) else {
-        return None;
-    };
+    let (before, moved) = (known.get(router)?, lab.router(router)?);
     if moved.regular().ms() != before.timers.regular {
         Some(UpdateRecord::Regular)
     } else if moved.hold().ms() != before.timers.hold {

@@ -7,7 +7,6 @@ mod records;
 
 use json::{Token, Writer};
 use prefix6::{Addr6, Prefix};
-use route_table::Deadline;
 use router_core::Listed;
 use std::alloc::{AllocError, Global};
 use std::fmt::Display;
@@ -96,6 +95,13 @@ impl<'a, T: ToJson, R: Members> Members for (&'static str, &'a T, R) {
     }
 }
 
+/// Writes an object to a text.
+macro_rules! object {
+    ($text:ident, $($members:tt)*) => {
+        $text.object(&$crate::to_json::members!($($members)*))
+    };
+}
+
 /// Members of an object, in order: fields and references under their own names, and other references under the names before them, as in
 /// `members!(self.line, "record": &"lost", datagram)`.
 macro_rules! members {
@@ -112,6 +118,7 @@ macro_rules! members {
 }
 
 pub(crate) use members;
+pub(crate) use object;
 
 impl ToJson for u8 {
     ghost json = { number_of };
@@ -142,15 +149,6 @@ impl ToJson for usize {
 
     fn write_json(&self, text: &mut JsonText) {
         (*self as u64).write_json(text);
-    }
-}
-
-/// In milliseconds.
-impl ToJson for Deadline {
-    ghost json = { number_of };
-
-    fn write_json(&self, text: &mut JsonText) {
-        self.ms().write_json(text);
     }
 }
 

@@ -165,17 +165,6 @@ impl<'a, W: Write> Watch for Tracer<'a, W> {
         write_record(self.known.alloc, self.form, &record, self.out)
     }
 
-    fn lied(
-        &mut self,
-        running: &Network,
-        event: &Event<'_>,
-        answer: &Answer,
-        first: usize,
-        sender: Option<usize>,
-    ) -> io::Result<()> {
-        self.report(running, event, true, answer, first, sender)
-    }
-
     fn noticed(&mut self, notice: Notice<'_>) -> io::Result<()> {
         let (alloc, names) = (self.known.alloc, self.known.names);
         let mut prints = Vec::new(alloc);
@@ -193,6 +182,9 @@ impl<'a, W: Write> Watch for Tracer<'a, W> {
                 return self.report_action(Action::GoesRound { rounds, last });
             }
             &Notice::Phases(made) => return self.report_action(Action::Makes(made)),
+            &Notice::Lied(lab, event, answer, first, forger) => {
+                return self.report(lab, event, true, answer, first, forger);
+            }
             Notice::Refused(ending) => {
                 let hint = hint_of(alloc, self.script, ending)?;
                 let why = format!(in alloc; "{}", ending.refusal)?;

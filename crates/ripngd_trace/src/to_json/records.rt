@@ -2,13 +2,13 @@
 #![tactic(auto, unfolding(crate::specs::Json::json_of_aside, crate::specs::Json::json_of_change, crate::specs::Json::json_of_due, crate::specs::Json::json_of_event, crate::specs::Json::json_of_fault, crate::specs::Json::json_of_happened, crate::specs::Json::json_of_hint, crate::specs::Json::json_of_hop, crate::specs::Json::json_of_interface, crate::specs::Json::json_of_note, crate::specs::Json::json_of_offer, crate::specs::Json::json_of_origin, crate::specs::Json::json_of_owned, crate::specs::Json::json_of_peer, crate::specs::Json::json_of_reconfigured, crate::specs::Json::json_of_route, crate::specs::Json::json_of_router, crate::specs::Json::json_of_sender, crate::specs::Json::json_of_sent, crate::specs::Json::json_of_start, crate::specs::Json::json_of_stranger, crate::specs::Json::json_of_timers))]
 
 ghost use Rattle.std.specs.Prelude.{◌≡◌};
-ghost use Rattle.ripngd_trace.specs.Common.{json_of_aside, json_of_change, json_of_due, json_of_event, json_of_fault, json_of_happened, json_of_hint, json_of_hop, json_of_interface, json_of_note, json_of_offer, json_of_origin, json_of_owned, json_of_peer, json_of_reconfigured, json_of_route, json_of_router, json_of_sender, json_of_sent, json_of_start, json_of_stranger, json_of_timers, json_of_update, update_name};
+ghost use Rattle.ripngd_trace.specs.Common.{json_of_aside, json_of_change, json_of_due, json_of_event, json_of_fault, json_of_happened, json_of_hint, json_of_hop, json_of_interface, json_of_note, json_of_offer, json_of_origin, json_of_owned, json_of_peer, json_of_route, json_of_router, json_of_sender, json_of_sent, json_of_start, json_of_stranger, json_of_timers, json_of_update, update_name};
 
 use crate::records::{
     Action, AsideRecord, EventRecord, Happened, OfferRecord, RouterRecord, StartRecord, Timers,
     UpdateRecord,
 };
-use crate::to_json::{JsonText, ToJson, members};
+use crate::to_json::{JsonText, ToJson, object};
 use fib::{Hop, RouteChange};
 use json::Token;
 use prefix6::{Addr6, Prefix};
@@ -21,7 +21,7 @@ impl<'a> ToJson for StartRecord<'a> {
     ghost json = { json_of_start };
 
     fn write_json(&self, text: &mut JsonText) {
-        text.object(&members!(self.line, "record": &"start", self.now, self.routers, self.sent));
+        object!(text, self.line, "record": &"start", self.now, self.routers, self.sent);
     }
 }
 
@@ -55,19 +55,17 @@ impl<'a> ToJson for AsideRecord<'a> {
     fn write_json(&self, text: &mut JsonText) {
         match &self.action {
             Action::Prints { word, lines, .. } => {
-                text.object(&members!(self.line, "record": word, "prints": lines));
+                object!(text, self.line, "record": word, "prints": lines);
             }
-            Action::Loses(datagram) => {
-                text.object(&members!(self.line, "record": &"lost", datagram));
-            }
+            Action::Loses(datagram) => object!(text, self.line, "record": &"lost", datagram),
             Action::GoesRound { rounds, last } => {
-                text.object(&members!(self.line, "record": &"rounds", rounds, last));
+                object!(text, self.line, "record": &"rounds", rounds, last);
             }
             Action::Makes(MadePhases { phases, last }) => {
-                text.object(&members!(self.line, "record": &"phases", phases, last));
+                object!(text, self.line, "record": &"phases", phases, last);
             }
             Action::Ends { why, hint, .. } => {
-                text.object(&members!(self.line, "record": &"refused", why, hint));
+                object!(text, self.line, "record": &"refused", why, hint);
             }
         }
     }
@@ -78,7 +76,7 @@ impl ToJson for (usize, String) {
     ghost json = { json_of_hint };
 
     fn write_json(&self, text: &mut JsonText) {
-        text.object(&members!("line": &self.0, "text": &self.1.as_str()));
+        object!(text, "line": &self.0, "text": &self.1.as_str());
     }
 }
 
@@ -86,9 +84,7 @@ impl ToJson for RouterRecord {
     ghost json = { json_of_router };
 
     fn write_json(&self, text: &mut JsonText) {
-        text.object(&members!(
-            "quiet": &self.quiet, self.interfaces, self.prefixes, self.timers, self.routes
-        ));
+        object!(text, "quiet": &self.quiet, self.interfaces, self.prefixes, self.timers, self.routes);
     }
 }
 
@@ -98,9 +94,7 @@ impl ToJson for (Interface, Option<u16>) {
 
     fn write_json(&self, text: &mut JsonText) {
         let (interface, link) = self;
-        text.object(
-            &members!(interface.addr, interface.cost, "mtu": &u64::from(interface.mtu), link),
-        );
+        object!(text, interface.addr, interface.cost, "mtu": &u64::from(interface.mtu), link);
     }
 }
 
@@ -109,7 +103,7 @@ impl ToJson for (Prefix, u16) {
     ghost json = { json_of_owned };
 
     fn write_json(&self, text: &mut JsonText) {
-        text.object(&members!("prefix": &self.0, "tag": &self.1));
+        object!(text, "prefix": &self.0, "tag": &self.1);
     }
 }
 
@@ -117,7 +111,7 @@ impl ToJson for Timers {
     ghost json = { json_of_timers };
 
     fn write_json(&self, text: &mut JsonText) {
-        text.object(&members!(self.last, self.regular, self.hold, self.due));
+        object!(text, self.last, self.regular, self.hold, self.due);
     }
 }
 
@@ -126,7 +120,7 @@ impl ToJson for (Deadline, Prefix) {
     ghost json = { json_of_due };
 
     fn write_json(&self, text: &mut JsonText) {
-        text.object(&members!("until": &self.0, "prefix": &self.1));
+        object!(text, "until": &self.0.ms(), "prefix": &self.1);
     }
 }
 
@@ -135,10 +129,10 @@ impl ToJson for (Prefix, Route) {
 
     fn write_json(&self, text: &mut JsonText) {
         let route = &self.1;
-        text.object(&members!(
-            "prefix": &self.0, "metric": &route.metric(), "tag": &route.tag(), "gateway": &route.origin(),
-            "until": &route.deadline(), "marked": &route.is_changed()
-        ));
+        object!(
+            text, "prefix": &self.0, "metric": &route.metric(), "tag": &route.tag(), "gateway": &route.origin(),
+            "until": &route.deadline().map(|until| until.ms()), "marked": &route.is_changed()
+        );
     }
 }
 
@@ -153,7 +147,7 @@ impl ToJson for Origin {
                 iface,
                 from,
                 next_hop,
-            } => text.object(&members!(iface, from, next_hop)),
+            } => object!(text, iface, from, next_hop),
         }
     }
 }
@@ -167,36 +161,24 @@ impl<'a, 'b> ToJson for Happened<'a, 'b> {
                 datagram,
                 iface,
                 ..
-            } => text.object(&members!("kind": &"deliver", datagram, iface, self.sender)),
+            } => object!(text, "kind": &"deliver", datagram, iface, self.sender),
             Event::Stranger { arrival, .. } if self.is_forged => {
-                text.object(
-                    &members!("kind": &"liar", arrival.iface, arrival.source, arrival.bytes),
-                );
+                object!(text, "kind": &"liar", arrival.iface, arrival.source, arrival.bytes);
             }
-            Event::Stranger { arrival, .. } => text.object(&members!(
-                "kind": &"stranger", arrival.iface, arrival.source, "port": &arrival.source_port, arrival.hop_limit,
+            Event::Stranger { arrival, .. } => object!(
+                text, "kind": &"stranger", arrival.iface, arrival.source, "port": &arrival.source_port, arrival.hop_limit,
                 "group": &arrival.to_group, arrival.bytes
-            )),
-            Event::Tick { word, .. } => text.object(
-                &members!("kind": &"tick", "word": &u64::from(*word)),
             ),
-            Event::Restart { .. } => text.object(&members!("kind": &"restart")),
-            Event::Shutdown { .. } => text.object(&members!("kind": &"shutdown")),
-            Event::LinkDown { iface, .. } => text.object(&members!("kind": &"link_down", iface)),
-            Event::LinkUp { iface, .. } => text.object(&members!("kind": &"link_up", iface)),
-            Event::Reconfigure { change, .. } => change.write_json(text),
-        }
-    }
-}
-
-impl ToJson for Change {
-    ghost json = { json_of_reconfigured };
-
-    fn write_json(&self, text: &mut JsonText) {
-        match self {
-            Change::Cost { iface, cost } => text.object(&members!("kind": &"cost", iface, cost)),
-            Change::Own { prefix, tag } => text.object(&members!("kind": &"gain", prefix, tag)),
-            Change::Disown { prefix } => text.object(&members!("kind": &"drop", prefix)),
+            Event::Tick { word, .. } => object!(text, "kind": &"tick", "word": &u64::from(*word)),
+            Event::Restart { .. } => object!(text, "kind": &"restart"),
+            Event::Shutdown { .. } => object!(text, "kind": &"shutdown"),
+            Event::LinkDown { iface, .. } => object!(text, "kind": &"link_down", iface),
+            Event::LinkUp { iface, .. } => object!(text, "kind": &"link_up", iface),
+            Event::Reconfigure { change, .. } => match change {
+                Change::Cost { iface, cost } => object!(text, "kind": &"cost", iface, cost),
+                Change::Own { prefix, tag } => object!(text, "kind": &"gain", prefix, tag),
+                Change::Disown { prefix } => object!(text, "kind": &"drop", prefix),
+            },
         }
     }
 }
@@ -207,7 +189,7 @@ impl<'a> ToJson for (&'a Sent, Option<Addr6>) {
 
     fn write_json(&self, text: &mut JsonText) {
         let (sent, addr) = self;
-        text.object(&members!(sent.router, sent.iface, addr));
+        object!(text, sent.router, sent.iface, addr);
     }
 }
 
@@ -215,7 +197,7 @@ impl ToJson for Fault {
     ghost json = { json_of_fault };
 
     fn write_json(&self, text: &mut JsonText) {
-        text.object(&members!("number": &self.number(), "name": &self.name()));
+        object!(text, "number": &self.number(), "name": &self.name());
     }
 }
 
@@ -224,7 +206,7 @@ impl ToJson for Note {
 
     fn write_json(&self, text: &mut JsonText) {
         let kind = self.kind;
-        text.object(&members!(self.entry, "number": &kind.number(), "name": &kind.name()));
+        object!(text, self.entry, "number": &kind.number(), "name": &kind.name());
     }
 }
 
@@ -233,9 +215,9 @@ impl ToJson for OfferRecord {
     ghost json = { json_of_offer };
 
     fn write_json(&self, text: &mut JsonText) {
-        text.object(&members!(
-            self.entry, self.prefix, self.metric, self.tag, self.next_hop, "why": &self.why.name()
-        ));
+        object!(
+            text, self.entry, self.prefix, self.metric, self.tag, self.next_hop, "why": &self.why.name()
+        );
     }
 }
 
@@ -260,8 +242,8 @@ impl ToJson for RouteChange {
                 prefix,
                 hop,
                 metric,
-            } => text.object(&members!("change": &"add", prefix, metric, "via": hop)),
-            RouteChange::Withdraw { prefix } => text.object(&members!("change": &"del", prefix)),
+            } => object!(text, "change": &"add", prefix, metric, "via": hop),
+            RouteChange::Withdraw { prefix } => object!(text, "change": &"del", prefix),
         }
     }
 }
@@ -273,7 +255,7 @@ impl ToJson for Hop {
     fn write_json(&self, text: &mut JsonText) {
         match self {
             Hop::Direct => text.token(Token::Null),
-            Hop::Via { iface, next_hop } => text.object(&members!(iface, next_hop)),
+            Hop::Via { iface, next_hop } => object!(text, iface, next_hop),
         }
     }
 }
@@ -285,7 +267,7 @@ impl ToJson for Destination {
     fn write_json(&self, text: &mut JsonText) {
         match self {
             Destination::Group => text.token(Token::Null),
-            Destination::Peer { addr, port } => text.object(&members!(addr, port)),
+            Destination::Peer { addr, port } => object!(text, addr, port),
         }
     }
 }
@@ -297,6 +279,6 @@ impl<'a> ToJson for (usize, &'a Sent) {
     fn write_json(&self, text: &mut JsonText) {
         let (datagram, sent) = self;
         let bytes = &sent.bytes.as_slice();
-        text.object(&members!(datagram, sent.router, sent.iface, "peer": &sent.to, bytes));
+        object!(text, datagram, sent.router, sent.iface, "peer": &sent.to, bytes);
     }
 }

@@ -1,12 +1,24 @@
-use Rattle.std.proofs.Common.{Some, Err, ap}
+use Rattle.std.proofs.Common.{◌≡◌, All, Some, Err, ap, length, sym, subst, arith}
+use Rattle.std.proofs.lemmas.List.Elements.{All-push}
 use Rattle.ripng_world.specs.Watching.{failures}
 use Rattle.ripngd_lab.proofs.ScriptWatching.{untold, has_told, rounds_told, rounds_none, rounds_one}
 use Rattle.ripngd_lab.proofs.moving.make_whole_rounds.Goals as goal
 
-pub returns-in_err-ticks : goal.returns-in_err-ticks
-returns-in_err-ticks g c =
+pub returns-in_err-vec : goal.returns-in_err-vec
+returns-in_err-vec g c =
     has_told g.V.Watch.starts g.V.Observer.takes g.V.Observer.fails g.V.Watch.notes c.from_residual.result (Some c.args.lab.now, c.args.watch.now) (Some c.args.lab.now, c.args.watch.now)
     (untold g.V.Watch.starts g.V.Observer.takes g.V.Observer.fails g.V.Watch.notes (Some c.args.lab.now, c.args.watch.now))
+
+pub returns-in_err-push : goal.returns-in_err-push
+returns-in_err-push g c =
+    has_told g.V.Watch.starts g.V.Observer.takes g.V.Observer.fails g.V.Watch.notes c.from_residual-in_err-push.result (Some c.args.lab.now, c.args.watch.now) (Some c.args.lab.now, c.args.watch.now)
+    (untold g.V.Watch.starts g.V.Observer.takes g.V.Observer.fails g.V.Watch.notes (Some c.args.lab.now, c.args.watch.now))
+
+pub loop-now-preserved : goal.loop-now-preserved
+loop-now-preserved g c =
+    subst (All (λ t. length t.1.items ≡ c.routers-routers.result)) (sym c.in_ok-push.ensures.items)
+    (All-push (λ t. length t.1.items ≡ c.routers-routers.result) c.loop-now.ticks.items (c.now-item.result, c.in_ok-vec.field-0) c.loop-now.invariant
+    (omega (arith, c.in_ok-vec.ensures.len, c.in_ok-vec.field-0.ok.0)))
 
 pub returns-in_err-rounds : goal.returns-in_err-rounds
 returns-in_err-rounds g c =

@@ -2,6 +2,6 @@ use Rattle.std.proofs.Common.{Some}
 use Rattle.ripngd_lab.proofs.ScriptWatching.{untold, has_told}
 use Rattle.ripngd_lab.proofs.course.Course.bend.Goals as goal
 
-pub returns-in_err-set_horizon : goal.returns-in_err-set_horizon
-returns-in_err-set_horizon g c =
+pub returns-in_err-push : goal.returns-in_err-push
+returns-in_err-push g c =
     has_told g.V.Watch.starts g.V.Observer.takes g.V.Observer.fails g.V.Watch.notes c.from_residual.result (Some c.args.self.now.site, c.args.watch.now) (Some c.args.self.now.site, c.args.watch.now) (untold g.V.Watch.starts g.V.Observer.takes g.V.Observer.fails g.V.Watch.notes (Some c.args.self.now.site, c.args.watch.now))

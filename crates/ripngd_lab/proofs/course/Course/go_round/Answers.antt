@@ -1,10 +1,6 @@
 use Rattle.std.proofs.Common.{Some}
-use Rattle.ripngd_lab.proofs.ScriptWatching.{untold, has_told, has_told_on}
+use Rattle.ripngd_lab.proofs.ScriptWatching.{has_told_on}
 use Rattle.ripngd_lab.proofs.course.Course.go_round.Goals as goal
-
-pub returns-in_err-moments : goal.returns-in_err-moments
-returns-in_err-moments g c =
-    has_told g.V.Watch.starts g.V.Observer.takes g.V.Observer.fails g.V.Watch.notes c.from_residual.result (Some c.args.self.now.site, c.args.watch.now) (Some c.args.self.now.site, c.args.watch.now) (untold g.V.Watch.starts g.V.Observer.takes g.V.Observer.fails g.V.Watch.notes (Some c.args.self.now.site, c.args.watch.now))
 
 pub returns : goal.returns
 returns g c =

@@ -1,5 +1,7 @@
 use Rattle.std.proofs.Common.{◌≡◌, ◌∙◌, Err, Some, ap, length, subst, sym}
 use Rattle.ripng_world.specs.Labs.{LabValue}
+use Rattle.ripng_world.specs.World.{Stranger}
+use Rattle.ripngd_lab.specs.Asides.{Lie}
 use Rattle.ripngd_lab.specs.declared.course.Course.{Course}
 use Rattle.ripngd_lab.specs.ScriptWatching.{IsToldOfLab}
 use Rattle.ripngd_lab.specs.Sites.{value_of}
@@ -15,18 +17,19 @@ returns-in_err-answer g c =
     let same : c.in-Lied.running ≡ c.args.self.now.site = ap value_of (sym c.in-Lied.is) ∙ ap (λ (x : Course). x.site) c.self.view_is in
     untold_as g.V.Watch.starts g.V.Observer.takes g.V.Observer.fails g.V.Watch.notes c.from_residual.result (Some c.args.self.now.site) (Some c.lie.new.self) c.args.watch.now (ap Some (c.in_err-answer.ensures.err ∙ same))
 
-pub returns-in_err-lied : goal.returns-in_err-lied
-returns-in_err-lied g c =
+pub returns-in_err-noticed : goal.returns-in_err-noticed
+returns-in_err-noticed g c =
     let same : c.in-Lied.running ≡ c.args.self.now.site = ap value_of (sym c.in-Lied.is) ∙ ap (λ (x : Course). x.site) c.self.view_is in
-    told_from g.V.Watch.starts g.V.Observer.takes g.V.Observer.fails g.V.Watch.notes c.from_residual-in_err-lied.result (Some c.args.self.now.site) (Some c.in-Lied.running) c.args.watch.now (Some c.lie.new.self, c.lied.new.self) (ap Some (sym same))
-    (failed_until g.V.Watch.starts g.V.Observer.takes g.V.Observer.fails g.V.Watch.notes c.from_residual-in_err-lied.result c.in_err-lied.field-0.0 (Some c.in-Lied.running, c.args.watch.now) (Some c.lie.new.self, c.lied.new.self)
-    c.from_residual-in_err-lied.ensures.1
-    (lie_failed g.V.Watch.starts g.V.Observer.takes g.V.Observer.fails g.V.Watch.notes c.in-Lied.running c.lie.new.self c.args.router c.args.arrival c.in_ok-answer.answer c.args.watch.now c.lied.new.self
-    c.in_ok-answer.ensures.lies c.in_ok-answer.ensures.network c.in_err-lied.ensures.broken))
+    told_from g.V.Watch.starts g.V.Observer.takes g.V.Observer.fails g.V.Watch.notes c.from_residual-in_err-noticed.result (Some c.args.self.now.site) (Some c.in-Lied.running) c.args.watch.now (Some c.lie.new.self, c.noticed.new.self) (ap Some (sym same))
+    (failed_until g.V.Watch.starts g.V.Observer.takes g.V.Observer.fails g.V.Watch.notes c.from_residual-in_err-noticed.result c.in_err-noticed.field-0.0 (Some c.in-Lied.running, c.args.watch.now) (Some c.lie.new.self, c.noticed.new.self)
+    c.from_residual-in_err-noticed.ensures.1
+    (lie_failed g.V.Watch.starts g.V.Observer.takes g.V.Observer.fails g.V.Watch.notes c.in-Lied.running c.lie.new.self c.args.router c.args.arrival c.in_ok-answer.answer c.args.watch.now c.noticed.new.self
+    c.in_ok-answer.ensures.lies c.in_ok-answer.ensures.network c.in_err-noticed.ensures.broken))
 
 pub returns : goal.returns
 returns g c =
     let same : c.in-Lied.running ≡ c.args.self.now.site = ap value_of (sym c.in-Lied.is) ∙ ap (λ (x : Course). x.site) c.self.view_is in
-    subst (λ (l : LabValue). IsToldOfLab g.V.Watch.starts g.V.Observer.takes g.V.Watch.notes (Some l, c.args.watch.now) (Some c.lie.new.self, c.lied.new.self)) same
-    (lied g.V.Watch.starts g.V.Observer.takes g.V.Observer.fails g.V.Watch.notes c.in-Lied.running c.lie.new.self c.args.router c.args.arrival c.in_ok-answer.answer _ c.args.watch.now c.lied.new.self
-    c.in_ok-answer.ensures.lies c.in_ok-answer.ensures.network (ap length c.sent-first.ensures) c.in_ok-lied.ensures.notes)
+    subst (λ (l : LabValue). IsToldOfLab g.V.Watch.starts g.V.Observer.takes g.V.Watch.notes (Some l, c.args.watch.now) (Some c.lie.new.self, c.noticed.new.self)) same
+    (lied g.V.Watch.starts g.V.Observer.takes g.V.Observer.fails g.V.Watch.notes c.in-Lied.running c.lie.new.self c.args.router c.args.arrival c.in_ok-answer.answer _ c.args.watch.now c.noticed.new.self
+    c.in_ok-answer.ensures.lies c.in_ok-answer.ensures.network (ap length c.sent-first.ensures)
+    (subst (λ (l : LabValue). g.V.Watch.notes c.args.watch.now (Lie (record { lab = l; event = Stranger c.args.router c.args.arrival; answer = c.in_ok-answer.answer; first = length c.sent-first.result.now })) c.noticed.new.self) c.running-lab.ensures c.in_ok-noticed.ensures.notes))

@@ -8,8 +8,8 @@ pub returns-in_err-check_named-clause-told : goal.returns-in_err-check_named-cla
 returns-in_err-check_named-clause-told g c =
     has_told g.V.Watch.starts g.V.Observer.takes g.V.Observer.fails g.V.Watch.notes c.from_residual.result (Some c.args.self.now.site, c.args.watch.now) (Some c.args.self.now.site, c.args.watch.now) (untold g.V.Watch.starts g.V.Observer.takes g.V.Observer.fails g.V.Watch.notes (Some c.args.self.now.site, c.args.watch.now))
 
-pub returns-then-is_lost-clause-told : goal.returns-then-is_lost-clause-told
-returns-then-is_lost-clause-told g c =
+pub returns-then-contains-clause-told : goal.returns-then-contains-clause-told
+returns-then-contains-clause-told g c =
     has_told g.V.Watch.starts g.V.Observer.takes g.V.Observer.fails g.V.Watch.notes (Err (Refused DatagramLost)) (Some c.args.self.now.site, c.args.watch.now) (Some c.args.self.now.site, c.args.watch.now) (untold g.V.Watch.starts g.V.Observer.takes g.V.Observer.fails g.V.Watch.notes (Some c.args.self.now.site, c.args.watch.now))
 
 pub returns-in_err-push-clause-told : goal.returns-in_err-push-clause-told

@@ -1,5 +1,0 @@
-use Rattle.std.proofs.Common.{◌≡◌, All, length}
-use Rattle.ripngd_lab.proofs.moving.ticks_at.Given as goal
-
-abbrev pub invariant-loop-now : goal.invariant-loop-now
-invariant-loop-now l = All (λ t. length t.1.items ≡ l.routers) l.ticks.items
