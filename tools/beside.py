@@ -9,8 +9,9 @@ datagram, and advertises them again, at 1 and at 0.5 ms between datagrams, in or
 both. Of each daemon it prints what a route cost in microseconds of processor time (as the scheduler counts it) and in bytes of memory,
 in the middle of all runs, and the ratio of the two daemons in each run. The peak is the most that was resident until the end of a
 regular update on two interfaces, on one of which nobody listens; it is a run of its own. Idle is a daemon that nobody talks to, at one
-interface and at sixteen, the most that PROGRAM may have. Needs root, `ip` and BIRD 2 (Debian's packages iproute2 and bird2); where one
-is wanting it says `skipped: ..`. A round takes some ten minutes: regular updates are up to 45 seconds apart."""
+interface and at sixteen, the most that PROGRAM may have. Meanwhile each processor is kept awake by work that gives way to all other:
+else much of a row is what it takes to wake one, which is the machine's. Needs root, `ip` and BIRD 2 (Debian's packages iproute2 and
+bird2); where one is wanting it says `skipped: ..`. A round takes some ten minutes: regular updates are up to 45 seconds apart."""
 
 import contextlib
 import os
@@ -227,6 +228,19 @@ def running(command):
             daemon.kill()
 
 
+@contextlib.contextmanager
+def awake():
+    """No processor sleeps: on each a process spins that runs only where nothing else does."""
+    spins = [sys.executable, "-c", "import os\nos.sched_setscheduler(0, os.SCHED_IDLE, os.sched_param(0))\nwhile True: pass"]
+    spinners = [subprocess.Popen(spins) for _ in range(os.cpu_count() or 1)]
+    try:
+        yield
+    finally:
+        for spinner in spinners:
+            spinner.kill()
+            spinner.wait()
+
+
 class Ours:
     """The program, over UDP on 127.0.0.1."""
 
@@ -332,7 +346,7 @@ def main():
     remove_spaces()
     try:
         make_spaces()
-        with tempfile.TemporaryDirectory() as folder:
+        with awake(), tempfile.TemporaryDirectory() as folder:
             here = pathlib.Path(folder)
             routers = (Ours(program, here), Bird(here))
             runs = [[rows_of(router, int(routes)) for router in routers] for _ in range(int(times))]
