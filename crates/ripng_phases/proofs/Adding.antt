@@ -1,5 +1,5 @@
 -- The regular update of a router, put among those of all.
-use Rattle.std.proofs.Common.{◌≡◌, ◌⊎◌, inl, inr, ℕ, zero, suc, ◌<◌, ◌≤◌, List, [], ◌∷◌, length, Option, Some, slice_get, set, refl, ap, sym, arith}
+use Rattle.std.proofs.Common.{◌≡◌, ◌⊎◌, inl, inr, ℕ, zero, suc, ◌<◌, List, [], ◌∷◌, length, Option, Some, slice_get, set, refl, ap, sym, arith}
 use Rattle.std.proofs.lemmas.List.{length-set}
 use Rattle.route_table.proofs.TableLaws.{Some-same}
 use Rattle.ripng_phases.specs.Making.{IsAdded}

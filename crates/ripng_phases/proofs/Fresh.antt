@@ -18,7 +18,7 @@ use Rattle.ripng_world.specs.Network.{Network, AreLinked, interface_at}
 use Rattle.ripng_world.specs.Rounds.{router_of, moment_of}
 use Rattle.ripng_world.specs.World.{World, Event, Deliver, Happens, address_at}
 use Rattle.ripng_world.specs.declared.network.NetInterface.{NetInterface}
-use Rattle.ripng_world.specs.declared.sent.Sent.{Sent}
+use Rattle.ripng_world.specs.declared.event.Sent.{Sent}
 use Rattle.ripng_world.proofs.HealPlain.{IsClocked}
 use Rattle.ripng_world.proofs.RoundDeliveries.{gateway_at}
 use Rattle.ripng_world.proofs.RoundNeighbors.{one_sender}

@@ -10,7 +10,7 @@ use Rattle.ripng_world.specs.Rounds.{IsDueTick}
 use Rattle.ripng_world.specs.Watching.{Told, WatchedRun, heard}
 use Rattle.ripng_world.specs.World.{World, Event, Deliver, Stranger, Tick, Restart, Shutdown, LinkDown, LinkUp, Reconfigure}
 use Rattle.ripng_world.specs.declared.lab.delivering.Pair.{Pair}
-use Rattle.ripng_world.specs.declared.sent.Sent.{Sent}
+use Rattle.ripng_world.specs.declared.event.Sent.{Sent}
 use Rattle.ripng_world.proofs.Among.{contains_at, in_map}
 use Rattle.ripng_world.proofs.AskedSynchronous.{to_pairs}
 use Rattle.ripng_world.proofs.Members.{At}

@@ -6,7 +6,7 @@ use Rattle.router_core.specs.Machine.{Happening}
 use Rattle.router_core.specs.declared.answer.Answer.{Answer}
 use Rattle.ripng_world.specs.Network.{Network}
 use Rattle.ripng_world.specs.World.{World, Event, Deliver, Stranger, Tick, Restart, Shutdown, LinkDown, LinkUp, Reconfigure, RouterMoves, Happens}
-use Rattle.ripng_world.specs.declared.sent.Sent.{Sent}
+use Rattle.ripng_world.specs.declared.event.Sent.{Sent}
 use Rattle.ripng_world.proofs.Members.{get_left}
 use Rattle.ripng_phases.proofs.Rows.{IsSame}
 use Rattle.ripng_phases.proofs.Resting.{IsRestingOn}

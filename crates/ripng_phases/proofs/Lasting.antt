@@ -17,7 +17,7 @@ use Rattle.router_core.proofs.HearingSteps.{at_place}
 use Rattle.ripng_world.specs.Network.{Network}
 use Rattle.ripng_world.specs.Rounds.{router_of, moment_of}
 use Rattle.ripng_world.specs.World.{World, Event, Happens}
-use Rattle.ripng_world.specs.declared.sent.Sent.{Sent}
+use Rattle.ripng_world.specs.declared.event.Sent.{Sent}
 use Rattle.ripng_world.proofs.Each.{each_at_place}
 use Rattle.ripng_world.proofs.HealPlain.{IsClocked}
 use Rattle.ripng_world.proofs.Members.{At, get_left, get_right}

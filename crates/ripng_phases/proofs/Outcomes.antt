@@ -1,5 +1,5 @@
 -- How a phase begins, ends, and stops.
-use Rattle.std.proofs.Common.{◌≡◌, ◌⊎◌, inl, inr, ℕ, ◌+◌, ◌<◌, ◌≤◌, List, [], ◌∷◌, ◌++◌, length, Result, Ok, Err, IsErrAnd, IfErr, OnOk, Some, slice_get, refl, sym, subst, ◌∙◌, arith, le_refl, le_trans}
+use Rattle.std.proofs.Common.{◌≡◌, ◌⊎◌, inl, inr, ℕ, zero, suc, ◌+◌, ◌<◌, ◌≤◌, List, [], ◌∷◌, ◌++◌, length, Result, Ok, Err, IsErrAnd, IfErr, OnOk, Some, slice_get, refl, sym, subst, ◌∙◌, arith, le_refl, le_trans, ok_or, replicate}
 use Rattle.std.specs.Prelude.{⊤, IfSome, Option, None, SomeIff}
 use Rattle.std.specs.List.{AllByRecursion}
 use Rattle.std.proofs.lemmas.Option.{slice_get_within}
@@ -11,7 +11,7 @@ use Rattle.ripng_world.specs.World.{World, Event, Tick}
 use Rattle.ripng_world.specs.declared.watch.Stopped.{Stopped}
 use Rattle.ripng_world.specs.declared.watch.Stopped.TheVariants.{Refused, Failed}
 use Rattle.ripng_world.proofs.Watched.{failed_at, whole_one}
-use Rattle.ripng_phases.specs.Making.{GoesOn, IsCutShort, IsFresh, IsHandedInPart, IsInMinute, IsLast, IsMadePhase, IsRising, IsTooLate, IsUnderway, MakesPhase, TellsSteps}
+use Rattle.ripng_phases.specs.Making.{GoesOn, IsCutShort, IsHandedInPart, IsInMinute, IsLast, IsMadePhase, IsRising, IsTooLate, IsUnderway, TellsSteps}
 use Rattle.ripng_phases.specs.Phases.{IsHeardUpdate, events_of}
 use Rattle.ripng_phases.specs.declared.acting.Course.{Course}
 use Rattle.ripng_phases.specs.declared.acting.Update.{Update}
@@ -20,6 +20,15 @@ use Rattle.ripng_phases.specs.declared.refused.PhaseRefused.TheVariants.{OutOfMe
 use Rattle.ripng_phases.proofs.Begun.{events_on}
 use Rattle.ripng_phases.proofs.Going.{minute_of, nudged, waits}
 use Rattle.ripng_phases.proofs.Tells.{tells_on, all_on, rising_on, rising_one}
+
+-- a phase begins at a moment, with a datagram, and no router has sent anything
+pub record IsFresh (lab : LabValue) (moment first : ℕ) (course : Course) : Type 0 where
+  pub moment_is : course.moment ≡ moment
+  pub ends : course.end ≡ moment + 60_000
+  pub next_is : course.next ≡ first
+  pub until_is : course.until ≡ length lab.world.sent
+  pub routers : length course.told.items ≡ length lab.network
+  pub untold : (router : ℕ) (u : Update) → slice_get course.told.items router ≡ Some (Some u) → ⊥
 
 -- want of memory, or the watcher, comes at any time
 pub any_time : {F : Type 0} (why : Stopped PhaseRefused F) (begin : ℕ) (w : World) → IfRefused why (λ refusal. refusal ≡ OutOfMemory) → IsTooLate why begin w
@@ -98,10 +107,10 @@ module _ {V F : Type 0} (t f : V → Told → V → Type 0) where
       }
 
   -- a phase that stops hands its error on
-  pub makes_handed : (r : Result ℕ (Stopped PhaseRefused F)) (why : Stopped PhaseRefused F) (s : LabValue × V) (first begin : ℕ) (new : LabValue × V) → IsErrAnd r (λ e. e ≡ why)
-      → IsCutShort t f s first begin why new → MakesPhase t f r s first begin new
-  makes_handed (Ok y) why s first begin new is cut = absurd is
-  makes_handed (Err e) why s first begin new is cut = subst (λ (x : Stopped PhaseRefused F). IsCutShort t f s first begin x new) (sym is) cut
+  pub cut_handed : {Y : Type 0} (r : Result Y (Stopped PhaseRefused F)) (why : Stopped PhaseRefused F) (s : LabValue × V) (first begin : ℕ) (new : LabValue × V) → IsErrAnd r (λ e. e ≡ why)
+      → IsCutShort t f s first begin why new → IfErr r (λ e. IsCutShort t f s first begin e new)
+  cut_handed (Ok y) why s first begin new is cut = absurd is
+  cut_handed (Err e) why s first begin new is cut = subst (λ (x : Stopped PhaseRefused F). IsCutShort t f s first begin x new) (sym is) cut
 
   -- memory is refused behind a phase
   pub cut_behind : (s : LabValue × V) (first begin next : ℕ) (s' : LabValue × V) → IsMadePhase t s first begin next s' → IsCutShort {F = F} t f s first begin (Refused OutOfMemory) s'
@@ -225,3 +234,18 @@ not_new P n (Some x) is e = absurd (None-Some x (sym e))
 pub some_new : (P : Type 0) (n : ℕ) (r : Option ℕ) (x : ℕ) → SomeIff r P n → r ≡ Some x → P × (x ≡ n)
 some_new P n None x is e = absurd (None-Some x e)
 some_new P n (Some y) x is e = (is.0, sym (Some-same y x e) ∙ is.1)
+
+-- an answer that stands for none
+pub ended : {X E : Type 0} (o : Option X) (e why : E) → Err why ≡ ok_or o e → (o ≡ None) × (why ≡ e)
+ended None e why is = (refl, cc)
+ended (Some x) e why is = absurd (cc)
+
+pub some_fact : {X : Type 0} (o : Option X) (x : X) (P : X → Type 0) → o ≡ Some x → IfSome o P → P x
+some_fact None x P is h = absurd (cc)
+some_fact (Some y) x P is h = subst P (Some-same y x is) h
+
+-- no router has sent anything yet
+pub untold : (n router : ℕ) (u : Update) → slice_get (replicate n None) router ≡ Some (Some u) → ⊥
+untold zero router u e = absurd (cc)
+untold (suc n) zero u e = absurd (cc)
+untold (suc n) (suc router) u e = untold n router u e

@@ -15,7 +15,7 @@ use Rattle.ripng_world.specs.Truth.{IsNeighbor}
 use Rattle.ripng_world.specs.Walks.{Hop, Reaches, cost_of_interface}
 use Rattle.ripng_world.specs.World.{World, Event, address_at, arrival_of}
 use Rattle.ripng_world.specs.declared.network.NetInterface.{NetInterface}
-use Rattle.ripng_world.specs.declared.sent.Sent.{Sent}
+use Rattle.ripng_world.specs.declared.event.Sent.{Sent}
 use Rattle.ripng_world.proofs.Members.{At}
 use Rattle.ripng_world.proofs.RoundNeighbors.{neighbor, is_another}
 use Rattle.ripng_world.proofs.WorldRuns.{not_own}

@@ -15,7 +15,7 @@ use Rattle.router_core.specs.declared.answer.Outgoing.{Outgoing}
 use Rattle.ripng_world.specs.Network.{Network}
 use Rattle.ripng_world.specs.Rounds.{Round, IsDueTick, IsDeliveryOf, IsMomentOf, IsSynchronousRound, AllTick, AllHeard, SynchronousRounds, router_of}
 use Rattle.ripng_world.specs.World.{World, Event, Deliver, Stranger, Tick, Restart, Shutdown, LinkDown, LinkUp, Reconfigure, RouterMoves, Happens, sent_by}
-use Rattle.ripng_world.specs.declared.sent.Sent.{Sent}
+use Rattle.ripng_world.specs.declared.event.Sent.{Sent}
 use Rattle.ripng_world.proofs.Each.{each_at_place}
 use Rattle.ripng_world.proofs.Members.{At, at_right, at_from_contains, get_right, split_at}
 use Rattle.ripng_phases.specs.Phases.{Step, Takes, IsCount, IsHeardUpdate, IsMomentIn, IsPhase, Before, PhasesAfter, AreCloseAfter, AreClose, ArePhases, before_next, events_in, events_of, reached, steps_of}

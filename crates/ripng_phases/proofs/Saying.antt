@@ -6,7 +6,7 @@ use Rattle.router_core.specs.Offers.{prefix_named}
 use Rattle.router_core.proofs.HearingSteps.{at_place}
 use Rattle.ripng_world.specs.Network.{Network}
 use Rattle.ripng_world.specs.World.{World}
-use Rattle.ripng_world.specs.declared.sent.Sent.{Sent}
+use Rattle.ripng_world.specs.declared.event.Sent.{Sent}
 use Rattle.ripng_world.proofs.Each.{each_at_place}
 use Rattle.ripng_world.proofs.Members.{At, get_left, get_right}
 use Rattle.ripng_phases.proofs.Bounding.{TablesAbove, SaidAbove}

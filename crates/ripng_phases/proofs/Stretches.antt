@@ -5,7 +5,7 @@ use Rattle.router_core.specs.Timers.{garbage_time}
 use Rattle.ripng_world.specs.Network.{Network, AreLinked}
 use Rattle.ripng_world.specs.Rounds.{IsDueTick, router_of, moment_of}
 use Rattle.ripng_world.specs.World.{World, Deliver, Tick}
-use Rattle.ripng_world.specs.declared.sent.Sent.{Sent}
+use Rattle.ripng_world.specs.declared.event.Sent.{Sent}
 use Rattle.ripng_world.proofs.Members.{At, at_right}
 use Rattle.ripng_phases.specs.Minutes.{Timed, AreFrom, IsPromptDelivery, untimed}
 use Rattle.ripng_phases.specs.Phases.{Step, Takes, IsCount, IsHeardUpdate, IsMomentIn, IsOvertaken, IsPhase, IsBegun, Before, BegunAfter, before_next, events_of, reached}

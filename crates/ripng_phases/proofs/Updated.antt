@@ -28,7 +28,7 @@ use Rattle.router_core.specs.declared.arrival.Fault.{Fault}
 use Rattle.ripng_world.specs.Network.{Network, HasDistinctAddresses, IsUsable}
 use Rattle.ripng_world.specs.Truth.{IsNeighbor}
 use Rattle.ripng_world.specs.World.{World, Delivers, address_at, arrival_of}
-use Rattle.ripng_world.specs.declared.sent.Sent.{Sent}
+use Rattle.ripng_world.specs.declared.event.Sent.{Sent}
 use Rattle.ripng_world.proofs.Each.{each_at_place}
 use Rattle.ripng_world.proofs.HealHearing.{AreFew, IsToldLine, hearing_here, hearing_bound}
 use Rattle.ripng_world.proofs.HealPlain.{IsPlainRow, IsClocked}

@@ -23,7 +23,7 @@ use Rattle.ripng_world.specs.Network.{Network, AreLinked}
 use Rattle.ripng_world.specs.Walks.{Hop, Reaches, cost_of_interface}
 use Rattle.ripng_world.specs.World.{World}
 use Rattle.ripng_world.specs.declared.network.NetInterface.{NetInterface}
-use Rattle.ripng_world.specs.declared.sent.Sent.{Sent}
+use Rattle.ripng_world.specs.declared.event.Sent.{Sent}
 use Rattle.ripng_world.proofs.Each.{each_at_place}
 use Rattle.ripng_world.proofs.HealPlain.{IsClocked}
 use Rattle.ripng_world.proofs.Improving.{RouteAt}

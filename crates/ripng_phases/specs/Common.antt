@@ -3,4 +3,4 @@ pub use Rattle.ripng_phases.specs.Below.{AllByRecursion, State, Network, World, 
 pub use Rattle.ripng_phases.specs.Changing.{shown_in, shown_below, shown_route}
 pub use Rattle.ripng_phases.specs.Phases.{Step, Begun, Phases, AreClose, ArePhases, steps_of, events_of, reached}
 pub use Rattle.ripng_phases.specs.Minutes.{Timed, AreFrom, IsTimely, untimed}
-pub use Rattle.ripng_phases.specs.Making.{GoesOn, IsLast, IsAdded, IsKept, AreMadeInPart, AreMadePhases, HealsIn, IsCutShort, IsFresh, IsLatest, IsMadePhase, LetsArriveIn, MakesPhase}
+pub use Rattle.ripng_phases.specs.Making.{GoesOn, IsLast, IsAdded, IsKept, AreMadeInPart, AreMadePhases, HealsIn, IsCutShort, IsLatest, IsMadePhase, LetsArriveIn}

@@ -136,21 +136,7 @@ pub record IsMadePhase {V : Type 0} (takes : V → Told → V → Type 0) (s : L
   pub handed_on : length s.0.world.sent ≤ next
   pub next_in : next ≤ length s'.0.world.sent
 
--- it is made, or stops
-abbrev pub MakesPhase : {V F : Type 0} → (V → Told → V → Type 0) → (V → Told → V → Type 0) → Result ℕ (Stopped PhaseRefused F) → LabValue × V → ℕ → ℕ → LabValue × V → Type 0
-MakesPhase takes fails (Ok next) old first begin new = IsMadePhase takes old first begin next new
-MakesPhase takes fails (Err why) old first begin new = IsCutShort takes fails old first begin why new
-
 -- ---- small things
-
--- a phase begins at a moment, with a datagram, and no router has sent anything
-pub record IsFresh (lab : LabValue) (moment first : ℕ) (course : Course) : Type 0 where
-  pub moment_is : course.moment ≡ moment
-  pub ends : course.end ≡ moment + 60_000
-  pub next_is : course.next ≡ first
-  pub until_is : course.until ≡ length lab.world.sent
-  pub routers : length course.told.items ≡ length lab.network
-  pub untold : (router : ℕ) (u : Update) → slice_get course.told.items router ≡ Some (Some u) → ⊥
 
 -- the datagram is of a regular update that was sent
 pub record IsKept (told : List (Option Update)) (datagram : ℕ) : Type 0 where

@@ -145,7 +145,7 @@ pub fn hand_on<S: RouteStore, V: Observer<S>, R: Rng>(
     let datagram = course.next;
     let now = course.moment;
     let keeps = course.keeps(datagram);
-    let Ok(receivers) = lab.receivers(&lab.sent()[datagram]) else {
+    let Ok(receivers) = lab.running().receivers(&lab.sent()[datagram]) else {
         return Err(Stopped::Refused(PhaseRefused::OutOfMemory));
     };
     for &(router, iface) in &receivers {

@@ -6,7 +6,7 @@
 //! is left comes in the next phase.
 
 ghost use Rattle.std.specs.Prelude.{◌≡◌, ◌↔◌, ℕ, ◌+◌, ◌^◌, ◌<◌, ◌≤◌, ◌⊎◌, max, IfErr, IfOk, IfSome, IsTrue, OnOk, None, Some, length, slice_get};
-ghost use Rattle.ripng_phases.specs.Common.{State, shown_in, AreMadeInPart, AreMadePhases, GoesOn, HealsIn, IsCutShort, IsFresh, IsLatest, IsMadePhase, LetsArriveIn, MakesPhase, Update as UpdateValue};
+ghost use Rattle.ripng_phases.specs.Common.{State, shown_in, AreMadeInPart, AreMadePhases, GoesOn, HealsIn, IsCutShort, IsLatest, IsMadePhase, LetsArriveIn, Update as UpdateValue};
 
 use crate::acting::{Course, PHASE_MS, hand_on, tick};
 use crate::refused::PhaseRefused;
@@ -14,7 +14,7 @@ use crate::shown::shown_routes;
 use rand_core::Rng;
 use ripng_world::{Lab, Observer, Stopped};
 use route_table::{Moment, RouteStore};
-use std::alloc::{AllocError, Global};
+use std::alloc::Global;
 
 /// How many random ticks there are in a phase, for each router.
 const TURNS: usize = 3;
@@ -59,8 +59,7 @@ fn make_turns<S: RouteStore, V: Observer<S>, R: Rng>(
         course.pass(rng.next_u32() % most_ms);
         let router = rng.next_u32() as usize % lab.routers().max(1);
         tick(lab, course, router, rng.next_u32(), watch)?;
-        let count = rng.next_u32() as usize % 8;
-        let end = course.next.saturating_add(count);
+        let end = course.next.saturating_add(rng.next_u32() as usize % 8);
         hand_until(lab, course, end, rng, watch)?;
     }
     Ok(())
@@ -73,8 +72,7 @@ fn due_moment<S: RouteStore>(lab: &Lab<S>, course: &Course, router: usize) -> Op
     ensures late { result ≡ None → course.now.moment < course.now.end → (state : State) → slice_get lab.now.world.states router ≡ Some state
         → (course.now.end ≤ state.regular) ⊎ (2 ^ 60 < state.regular) }
 {
-    let regular = lab.router(router)?.regular();
-    let due = regular.ms().max(course.moment.ms());
+    let due = lab.router(router)?.regular().ms().max(course.moment.ms());
     if due < course.end {
         Moment::new(due)
     } else {
@@ -97,64 +95,18 @@ fn tell_rest<S: RouteStore, V: Observer<S>, R: Rng>(
     for router in 0..lab.routers() {
         if !course.has_told(router) {
             let word = rng.next_u32();
-            let Some(due) = due_moment(lab, course, router) else {
-                return Err(Stopped::Refused(PhaseRefused::NoUpdateInTime { router }));
-            };
-            course.moment = due;
+            course.moment = due_moment(lab, course, router).ok_or(PhaseRefused::NoUpdateInTime {
+                router,
+            })?;
             tick(lab, course, router, word, watch)?;
         }
     }
     Ok(())
 }
 
-/// The course of a phase that begins, in which no router has sent anything.
-fn course_from<S: RouteStore>(
-    alloc: Global,
-    lab: &Lab<S>,
-    moment: Moment,
-    first: usize,
-) -> Result<Course, AllocError>
-    ensures { IfOk result (λ course. IsFresh lab.now moment first course) }
-{
-    let told = vec![in alloc; None; lab.routers()]?;
-    Ok(Course {
-        moment,
-        end: moment.ms() + PHASE_MS,
-        next: first,
-        until: lab.sent().len(),
-        told,
-    })
-}
-
-/// One phase, from a moment and a datagram on. Returns the datagram with which the next begins.
+/// One phase, from a moment and a datagram on. Returns the datagram with which the next begins, and whether all tables are as they
+/// were before.
 fn make_phase<S: RouteStore, V: Observer<S>, R: Rng>(
-    alloc: Global,
-    lab: &mut Lab<S>,
-    begin: u64,
-    first: usize,
-    rng: &mut R,
-    watch: &mut V,
-) -> Result<usize, Stopped<PhaseRefused, V::Fault>>
-    requires { first ≤ length lab.old.world.sent }
-    ensures made { MakesPhase V.takes V.fails result (lab.old, watch.old) first begin (lab.new, watch.new) }
-    ensures in_time { OnOk result (begin ≤ 2 ^ 60) }
-{
-    let Some(moment) = Moment::new(begin) else {
-        return Err(Stopped::Refused(PhaseRefused::PastLastMoment));
-    };
-    let mut course = match course_from(alloc, lab, moment, first) {
-        Ok(course) => course,
-        Err(_) => return Err(Stopped::Refused(PhaseRefused::OutOfMemory)),
-    };
-    make_turns(lab, &mut course, rng, watch)?;
-    tell_rest(lab, &mut course, rng, watch)?;
-    let end = course.until;
-    hand_until(lab, &mut course, end, rng, watch)?;
-    Ok(course.next)
-}
-
-/// One phase, as [`make_phase`] has it. Returns also whether all tables are as they were before.
-fn compare_phase<S: RouteStore, V: Observer<S>, R: Rng>(
     alloc: Global,
     lab: &mut Lab<S>,
     begin: u64,
@@ -171,11 +123,25 @@ fn compare_phase<S: RouteStore, V: Observer<S>, R: Rng>(
     let Ok(before) = shown_routes(alloc, lab) else {
         return Err(Stopped::Refused(PhaseRefused::OutOfMemory));
     };
-    let next = make_phase(alloc, lab, begin, first, rng, watch)?;
+    let moment = Moment::new(begin).ok_or(PhaseRefused::PastLastMoment)?;
+    let Ok(told) = vec![in alloc; None; lab.routers()] else {
+        return Err(Stopped::Refused(PhaseRefused::OutOfMemory));
+    };
+    let mut course = Course {
+        moment,
+        end: begin + PHASE_MS,
+        next: first,
+        until: lab.sent().len(),
+        told,
+    };
+    make_turns(lab, &mut course, rng, watch)?;
+    tell_rest(lab, &mut course, rng, watch)?;
+    let end = course.until;
+    hand_until(lab, &mut course, end, rng, watch)?;
     let Ok(after) = shown_routes(alloc, lab) else {
         return Err(Stopped::Refused(PhaseRefused::OutOfMemory));
     };
-    Ok((next, after.as_slice() == before.as_slice()))
+    Ok((course.next, after.as_slice() == before.as_slice()))
 }
 
 /// The last moment of all routers.
@@ -223,7 +189,7 @@ pub fn run_phases<S: RouteStore, V: Observer<S>, R: Rng>(
     let mut first = lab.sent().len();
     let mut last = None;
     for done in 0..phases {
-        match compare_phase(alloc, lab, begin, first, rng, watch) {
+        match make_phase(alloc, lab, begin, first, rng, watch) {
             Ok((next, stays)) => {
                 first = next;
                 last = if stays { last } else { Some(done) };

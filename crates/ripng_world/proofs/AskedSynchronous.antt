@@ -19,9 +19,9 @@ use Rattle.ripng_world.specs.Stopping.{HaveFailed, HaveStopped, StopsFor, StopsF
 use Rattle.ripng_world.specs.World.{World, Event, Deliver, Tick, WorldRun, IsCold, reconfiguration_in, reconfigurations_in}
 use Rattle.ripng_world.specs.declared.network.NetInterface.{NetInterface}
 use Rattle.ripng_world.specs.declared.lab.delivering.Pair.{Pair}
-use Rattle.ripng_world.specs.declared.rounds.RoundsRefused.{RoundsRefused}
-use Rattle.ripng_world.specs.declared.rounds.RoundsRefused.TheVariants.{NoRegularUpdate, OutOfMemory}
-use Rattle.ripng_world.specs.declared.sent.Sent.{Sent}
+use Rattle.ripng_world.specs.declared.lab.making.RoundsRefused.{RoundsRefused}
+use Rattle.ripng_world.specs.declared.lab.making.RoundsRefused.TheVariants.{NoRegularUpdate, OutOfMemory}
+use Rattle.ripng_world.specs.declared.event.Sent.{Sent}
 use Rattle.ripng_world.specs.declared.watch.Stopped.{Stopped}
 use Rattle.ripng_world.specs.declared.watch.Stopped.TheVariants.{Refused, Failed}
 use Rattle.ripng_world.proofs.Among.{contains_at, all_at, in_map, in_filter, to_filter, in_flat, in_filter_map, to_filter_map, at_take, get_drop, get_within, in_enumerated, to_enumerated, to_below, to_numbered, range_distinct}

@@ -9,7 +9,7 @@ use Rattle.prefix6.proofs.PrefixLaws.{prefixes_total}
 use Rattle.route_table.specs.Route.{RouteValue}
 use Rattle.route_table.proofs.TableLaws.{Some-same, None-Some}
 use Rattle.router_core.specs.Machine.{State, started}
-use Rattle.ripng_world.specs.declared.sent.Sent.{Sent}
+use Rattle.ripng_world.specs.declared.event.Sent.{Sent}
 use Rattle.ripng_world.specs.Network.{Node, config_of}
 use Rattle.ripng_world.specs.World.{StartsFrom}
 use Rattle.ripng_world.proofs.Members.{At}

@@ -11,7 +11,7 @@ use Rattle.ripng_world.specs.Network.{Network}
 use Rattle.ripng_world.specs.Rounds.{AllHeard}
 use Rattle.ripng_world.specs.World.{World, Event, Deliver, Stranger, Tick, Restart, Shutdown, LinkDown, LinkUp, Reconfigure, Happens, WorldRun, sent_by}
 use Rattle.ripng_world.specs.declared.lab.delivering.Pair.{Pair}
-use Rattle.ripng_world.specs.declared.sent.Sent.{Sent}
+use Rattle.ripng_world.specs.declared.event.Sent.{Sent}
 use Rattle.ripng_world.proofs.Among.{enumerate_append}
 use Rattle.ripng_world.proofs.Picking.{others_more, others_same, picked_more}
 use Rattle.ripng_world.specs.declared.watch.Stopped.{Stopped}

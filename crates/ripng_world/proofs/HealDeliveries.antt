@@ -23,7 +23,7 @@ use Rattle.router_core.specs.declared.answer.Answer.{Answer}
 use Rattle.router_core.specs.declared.arrival.Fault.{Fault}
 use Rattle.router_core.specs.declared.answer.NoteKind.TheVariants.{NoMemory}
 use Rattle.router_core.proofs.HearingSteps.{at_place}
-use Rattle.ripng_world.specs.declared.sent.Sent.{Sent}
+use Rattle.ripng_world.specs.declared.event.Sent.{Sent}
 use Rattle.ripng_world.specs.Network.{Network, Node, config_of, AreLinked, HasDistinctAddresses, IsUsable}
 use Rattle.ripng_world.specs.Truth.{IsNeighbor}
 use Rattle.ripng_world.specs.World.{World, Event, Deliver, Stranger, Tick, Restart, Shutdown, LinkDown, LinkUp, Reconfigure, RouterMoves, Delivers, address_at, arrival_of}

@@ -12,7 +12,7 @@ use Rattle.router_core.specs.Offers.{prefix_named}
 use Rattle.router_core.specs.Ageing.{aged, without_mark}
 use Rattle.router_core.specs.Output.{is_learned_on}
 use Rattle.router_core.specs.Machine.{State}
-use Rattle.ripng_world.specs.declared.sent.Sent.{Sent}
+use Rattle.ripng_world.specs.declared.event.Sent.{Sent}
 use Rattle.ripng_world.proofs.Members.{At}
 
 -- a metric goes with its clock

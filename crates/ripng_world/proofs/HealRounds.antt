@@ -15,7 +15,7 @@ use Rattle.router_core.specs.Output.{is_learned_on}
 use Rattle.router_core.specs.Timers.{garbage_time}
 use Rattle.router_core.specs.Machine.{State, Happening}
 use Rattle.router_core.specs.declared.answer.Answer.{Answer}
-use Rattle.ripng_world.specs.declared.sent.Sent.{Sent}
+use Rattle.ripng_world.specs.declared.event.Sent.{Sent}
 use Rattle.ripng_world.specs.Network.{Network, Node, AreLinked, HasDistinctAddresses, IsUsable, config_of}
 use Rattle.ripng_world.specs.Convergence.{IsNeverQuiet}
 use Rattle.ripng_world.specs.Healing.{IsTickOf}

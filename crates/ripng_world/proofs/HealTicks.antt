@@ -25,7 +25,7 @@ use Rattle.router_core.specs.declared.config.Interface.{Interface}
 use Rattle.router_core.proofs.HearingSteps.{numbered_at}
 use Rattle.router_core.proofs.Cutting.{joined-pieces}
 use Rattle.ripng_world.specs.declared.network.NetInterface.{NetInterface}
-use Rattle.ripng_world.specs.declared.sent.Sent.{Sent}
+use Rattle.ripng_world.specs.declared.event.Sent.{Sent}
 use Rattle.ripng_world.specs.Network.{Network, Node, config_of, interface_at, IsUsable}
 use Rattle.ripng_world.specs.World.{World, Event, Deliver, Stranger, Tick, Restart, Shutdown, LinkDown, LinkUp, Reconfigure, RouterMoves, sent_by}
 use Rattle.ripng_world.specs.Rounds.{IsDueTick, AllTick, router_of}

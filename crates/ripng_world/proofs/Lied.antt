@@ -14,7 +14,7 @@ use Rattle.ripng_world.specs.Network.{interface_at}
 use Rattle.ripng_world.specs.Stations.{StationValue, IsMoveAt, network_of, world_of}
 use Rattle.ripng_world.specs.World.{is_heard, sent_by}
 use Rattle.ripng_world.specs.declared.network.NetInterface.{NetInterface}
-use Rattle.ripng_world.specs.declared.sent.Sent.{Sent}
+use Rattle.ripng_world.specs.declared.event.Sent.{Sent}
 use Rattle.ripng_world.proofs.StationMoves.{interface_within, moved_at, some_of, within}
 
 -- an arrival that may be a liar's

@@ -16,7 +16,7 @@ use Rattle.router_core.specs.Reconfiguring.{reconfigured_config}
 use Rattle.router_core.specs.declared.answer.Answer.{Answer}
 use Rattle.router_core.specs.declared.arrival.Fault.{Fault}
 use Rattle.ripng_world.specs.declared.network.NetInterface.{NetInterface}
-use Rattle.ripng_world.specs.declared.sent.Sent.{Sent}
+use Rattle.ripng_world.specs.declared.event.Sent.{Sent}
 use Rattle.ripng_world.specs.Healing.{reconfigured_node, network_now}
 use Rattle.ripng_world.specs.Network.{Network, IsNetwork, config_of, interface_at}
 use Rattle.ripng_world.specs.Past.{OwnsSince}

@@ -13,7 +13,7 @@ use Rattle.ripng_world.specs.Network.{Network, Node, interface_at}
 use Rattle.ripng_world.specs.Stations.{StationValue, network_of}
 use Rattle.ripng_world.specs.World.{World, Deliver, Stranger, is_heard}
 use Rattle.ripng_world.specs.declared.event.LabError.TheVariants.{NoSuchRouter, NoSuchDatagram, OtherLink, NotAStranger, NotALiar}
-use Rattle.ripng_world.specs.declared.sent.Sent.{Sent}
+use Rattle.ripng_world.specs.declared.event.Sent.{Sent}
 
 -- ---- a router, and an interface of it
 

@@ -25,7 +25,7 @@ use Rattle.router_core.specs.Machine.{State, Arrives, Hears, Replies, Refuses, g
 use Rattle.router_core.specs.declared.answer.Answer.{Answer}
 use Rattle.router_core.specs.declared.arrival.Fault.{Fault}
 use Rattle.router_core.specs.declared.answer.NoteKind.TheVariants.{NoMemory}
-use Rattle.ripng_world.specs.declared.sent.Sent.{Sent}
+use Rattle.ripng_world.specs.declared.event.Sent.{Sent}
 use Rattle.ripng_world.specs.Network.{Network, Node, config_of, AreLinked, HasDistinctAddresses}
 use Rattle.ripng_world.specs.Walks.{cost_of_interface}
 use Rattle.ripng_world.specs.Truth.{IsNeighbor}

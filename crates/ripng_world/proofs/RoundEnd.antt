@@ -16,7 +16,7 @@ use Rattle.router_core.specs.Timers.{timeout}
 use Rattle.router_core.specs.Output.{is_learned_on}
 use Rattle.router_core.specs.Machine.{State}
 use Rattle.ripng_world.specs.declared.network.NetInterface.{NetInterface}
-use Rattle.ripng_world.specs.declared.sent.Sent.{Sent}
+use Rattle.ripng_world.specs.declared.event.Sent.{Sent}
 use Rattle.ripng_world.specs.Network.{Network, Node, config_of, interface_at, AreLinked, OwnsPrefixes, HasDistinctAddresses}
 use Rattle.ripng_world.specs.Walks.{Hop, Reaches, cost, cost_of_interface}
 use Rattle.ripng_world.specs.World.{World, Deliver, address_at}

@@ -31,7 +31,7 @@ use Rattle.ripng_world.specs.Stations.{StationValue, IsMoveAt, IsPlaced, MoveSta
 use Rattle.ripng_world.specs.Labs.{LabValue, IsRefusal, StepEnds, asked_reasons, lab_of, event_fault, event_reasons, missing_router_reasons, missing_interface_reasons, named_reasons, refusal_of, step_fault, is_one_link, link_at, link_of_datagram}
 use Rattle.ripng_world.specs.declared.event.LabError.{LabError}
 use Rattle.ripng_world.specs.declared.network.NetInterface.{NetInterface}
-use Rattle.ripng_world.specs.declared.sent.Sent.{Sent}
+use Rattle.ripng_world.specs.declared.event.Sent.{Sent}
 
 -- ---- one station moves
 

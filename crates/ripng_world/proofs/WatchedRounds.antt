@@ -12,8 +12,8 @@ use Rattle.ripng_world.specs.Rounds.{Round, AllTick, IsDueTick, events_of_rounds
 use Rattle.ripng_world.specs.Stopping.{RoundStops, RoundsStop, round_in}
 use Rattle.ripng_world.specs.Watching.{Told, WatchedRun, WatchedInPart, AreMadeTold, IsMadeTold, IfRefused, RoundToldInPart, any, due, failures, heard, refused_as, telling}
 use Rattle.ripng_world.specs.World.{World, Event, Happens, WorldRun}
-use Rattle.ripng_world.specs.declared.rounds.RoundsRefused.{RoundsRefused}
-use Rattle.ripng_world.specs.declared.rounds.RoundsRefused.TheVariants.{OutOfMemory}
+use Rattle.ripng_world.specs.declared.lab.making.RoundsRefused.{RoundsRefused}
+use Rattle.ripng_world.specs.declared.lab.making.RoundsRefused.TheVariants.{OutOfMemory}
 use Rattle.ripng_world.specs.declared.watch.Stopped.{Stopped}
 use Rattle.ripng_world.specs.declared.watch.Stopped.TheVariants.{Refused, Failed}
 use Rattle.ripng_world.proofs.AskedRuns.{tick_on}

@@ -27,7 +27,7 @@ use Rattle.router_core.specs.declared.answer.Answer.{Answer}
 use Rattle.router_core.specs.declared.arrival.Fault.{Fault}
 use Rattle.router_core.specs.declared.arrival.Fault.TheVariants.{Wire}
 use Rattle.ripng_world.specs.declared.network.NetInterface.{NetInterface}
-use Rattle.ripng_world.specs.declared.sent.Sent.{Sent}
+use Rattle.ripng_world.specs.declared.event.Sent.{Sent}
 use Rattle.ripng_world.specs.Network.{Network, Node, config_of, interface_at, AreLinked, Owns, OwnsPrefixes}
 use Rattle.ripng_world.specs.Walks.{cost_of_interface}
 use Rattle.ripng_world.specs.World.{World, Event, Deliver, Stranger, Tick, Restart, Shutdown, LinkDown, LinkUp, Reconfigure, RouterMoves, Happens, WorldRun, StartsFrom, IsCold, past_of, reconfigurations_of, reconfiguration_in, reconfigurations_in, sent_by, address_at, arrival_of}

@@ -42,8 +42,8 @@ pub use Rattle.ripng_world.specs.declared.network.NetRefused.TheVariants.{TooMan
 pub use Rattle.ripng_world.specs.declared.lab.delivering.Pair.{Pair}
 pub use Rattle.ripng_world.specs.declared.path.PathEnd.{PathEnd}
 pub use Rattle.ripng_world.specs.declared.path.PathEnd.TheVariants.{Delivered, NoRoute, NextHopIsNobodys, Loops}
-pub use Rattle.ripng_world.specs.declared.rounds.RoundsRefused.{RoundsRefused}
-pub use Rattle.ripng_world.specs.declared.rounds.RoundsRefused.TheVariants.{NoRegularUpdate}
-pub use Rattle.ripng_world.specs.declared.sent.Sent.{Sent}
+pub use Rattle.ripng_world.specs.declared.lab.making.RoundsRefused.{RoundsRefused}
+pub use Rattle.ripng_world.specs.declared.lab.making.RoundsRefused.TheVariants.{NoRegularUpdate}
+pub use Rattle.ripng_world.specs.declared.event.Sent.{Sent}
 pub use Rattle.ripng_world.specs.declared.watch.Stopped.{Stopped}
 pub use Rattle.ripng_world.specs.declared.watch.Stopped.TheVariants.{Refused, Failed}

@@ -7,7 +7,7 @@ use Rattle.ripng_world.specs.Delivering.{StopForMemory, StopForWatcher}
 use Rattle.ripng_world.specs.Network.{Network}
 use Rattle.ripng_world.specs.Rounds.{Round, AllTick, IsDueTick}
 use Rattle.ripng_world.specs.World.{World, Event}
-use Rattle.ripng_world.specs.declared.rounds.RoundsRefused.TheVariants.{OutOfMemory}
+use Rattle.ripng_world.specs.declared.lab.making.RoundsRefused.TheVariants.{OutOfMemory}
 
 -- ---- in the ticks of a round
 

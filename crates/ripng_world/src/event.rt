@@ -1,41 +1,44 @@
-//! What may happen in a network, and why an event is refused.
+//! What may happen in a network, what its routers send, and why an event is refused.
 
 ghost use Rattle.std.specs.Prelude.{◌≡◌};
 ghost use Rattle.ripng_world.specs.Common.{event_of, lab_error_name, refusal_of, router_of, OutOfMemory};
 
 use route_table::Moment;
-use router_core::{Arrival, Change, ReconfigureRefused};
+use router_core::{Arrival, Change, Destination, Listed, ReconfigureRefused};
 use std::alloc::AllocError;
 
-/// What may happen in a network.
+/// A datagram that was sent.
+#[derive(Drop)]
+pub struct Sent {
+    /// The number of the router that sent it.
+    pub router: usize,
+    /// The number of that router's interface.
+    pub iface: usize,
+    pub to: Destination,
+    pub bytes: Listed<u8>,
+}
+
+/// What may happen in a network. Its routers, the interfaces of each and all datagrams ever sent are numbered from 0. Each router
+/// has a clock of its own: `now` is the moment by that.
 #[derive(Drop)]
 pub enum Event<'a> {
     /// A datagram that a router sent comes to an interface of the link that it was sent on. Any datagram ever sent may come, at
     /// any time and any number of times. One that never comes is lost.
     Deliver {
-        /// Its number among all datagrams ever sent, from 0.
         datagram: usize,
-        /// The number of the router that it comes to.
         router: usize,
-        /// The number of that router's interface.
         iface: usize,
-        /// When it comes.
         now: Moment,
     },
     /// An outside host sends a datagram to a router. The event is refused for a Response that the router would accept.
     Stranger {
-        /// The number of the router that it comes to.
         router: usize,
-        /// The datagram as it comes.
         arrival: Arrival<'a>,
     },
-    /// Time passes at a router.
+    /// Time passes at a router. The word is a random number, for the times of the next updates.
     Tick {
-        /// The number of the router.
         router: usize,
-        /// The moment that it is.
         now: Moment,
-        /// A random number, for the times of the next updates.
         word: u32,
     },
     /// A router restarts.
@@ -52,23 +55,18 @@ pub enum Event<'a> {
     LinkDown {
         router: usize,
         now: Moment,
-        /// The number of the router's interface.
         iface: usize,
     },
     /// The link of an interface comes up: the router asks the neighbors there for their tables. Its own table stays.
     LinkUp {
         router: usize,
         now: Moment,
-        /// The number of the router's interface.
         iface: usize,
     },
     /// The configuration of a router is changed.
     Reconfigure {
-        /// The number of the router.
         router: usize,
-        /// The moment that it is.
         now: Moment,
-        /// What is changed.
         change: Change,
     },
 }

@@ -2,19 +2,19 @@
 //! datagram advertises, is backed by a walk through the network.
 
 ghost use Rattle.std.specs.Prelude.{◌≡◌, ◌++◌, ◌∷◌, [], IfErr, IfOk, IfSome, OnOk, length, map, take, slice_get, option_copied};
-ghost use Rattle.ripng_world.specs.Common.{result_err, event_of, HasRun, Keeps, HasNoneBelowLeast, HasNoneBelowLeastSince, AreDatagramsSoundSince, AreDatagramsSound, HappensGiving, IsRefusedNext, StepEnds, link_at, IsTableBackedSince, IsTableBacked, IfRefused, WatchedInPart, WatchedUntil, failures, failures_in, refusal_in, IsCold, WorldRun, reconfigurations_in, past_of, LabValue, coded_states};
+ghost use Rattle.ripng_world.specs.Common.{result_err, event_of, HasRun, Keeps, HasNoneBelowLeast, HasNoneBelowLeastSince, AreDatagramsSoundSince, AreDatagramsSound, HappensGiving, IsRefusedNext, StepEnds, IsTableBackedSince, IsTableBacked, IfRefused, WatchedInPart, WatchedUntil, failures, failures_in, refusal_in, IsCold, WorldRun, reconfigurations_in, past_of, LabValue, coded_states};
 
 mod delivering;
 mod making;
 
-use crate::event::{Event, LabError};
+use crate::event::{Event, LabError, Sent};
 use crate::moving::file;
 use crate::network::NetConfig;
 use crate::running::Running;
-use crate::sent::Sent;
 use crate::station::Station;
 use crate::watch::{Observer, Stopped, Unwatched};
 pub use delivering::wants_memory;
+pub use making::{Round, RoundsRefused};
 use route_table::{Moment, RouteStore};
 use router_core::{Answer, Change, Router};
 use std::alloc::Global;
@@ -116,13 +116,6 @@ impl<S: RouteStore> Lab<S> {
         ensures { result.now ≡ self.now.world.reconfigurations }
     {
         self.running.reconfigurations()
-    }
-
-    /// The number of the link of an interface, if the network has such a router and interface.
-    pub fn link(&self, router: usize, iface: usize) -> Option<u16>
-        ensures { result ≡ link_at self.now.network router iface }
-    {
-        self.running.link(router, iface)
     }
 
     /// The network is lawful, and the lab has run since a cold start: what a proof needs of what it does from now on.

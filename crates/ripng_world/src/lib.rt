@@ -27,14 +27,12 @@ mod laws;
 mod moving;
 mod network;
 mod path;
-mod rounds;
 mod running;
-mod sent;
 mod station;
 mod watch;
 
-pub use event::{Event, LabError};
-pub use lab::{Lab, wants_memory};
+pub use event::{Event, LabError, Sent};
+pub use lab::{Lab, Round, RoundsRefused, wants_memory};
 pub use laws::{
     converges_in_rounds, generalises_walks, heals_in_rounds, invents_no_distance,
     invents_no_distance_unchanged, keeps_routes_backed, names_one_gateway, packets_arrive,
@@ -43,7 +41,5 @@ pub use laws::{
 };
 pub use network::{NetConfig, NetInterface, NetRefused, Node, ROUTER_LIMIT};
 pub use path::{Path, PathEnd, PathHop};
-pub use rounds::{Round, RoundsRefused};
 pub use running::Running;
-pub use sent::Sent;
 pub use watch::{Observer, Stopped, Unwatched};

@@ -3,8 +3,7 @@
 ghost use Rattle.std.specs.Prelude.{◌≡◌, ℕ, ◌+◌, ◌<◌, ◌≤◌, ◌++◌, ◌∷◌, [], List, None, Some, IfErr, IfOk, OnErr, OnOk, map, length, slice_get, vec_len, vec_capacity};
 ghost use Rattle.ripng_world.specs.Common.{first_reason, Change as ChangeValue, event_of, happening_of, IsRefusal, event_fault, lab_of, named_reasons, IsMoveAt, IsPlaced, MoveStations, StationValue, network_of, Deliver, Reconfigure, arrival_of, reconfigurations_in, sent_by, Sent as SentValue};
 
-use crate::event::{Event, Happening, LabError};
-use crate::sent::Sent;
+use crate::event::{Event, Happening, LabError, Sent};
 use crate::station::{Station, interface_at};
 use prefix6::Addr6;
 use route_table::{Moment, RouteStore};

@@ -1,7 +1,7 @@
 //! Where packets go by the tables of routers that run: from router to router, each by its longest match, until the way ends.
 
-ghost use Rattle.std.specs.Prelude.{◌≡◌, ◌<◌, ◌≤◌, ◌≢◌, ◌^◌, ◌⊎◌, ◌↔◌, IfErr, IfOk, IfSome, IsNone, length, option_and_then, option_map, position};
-ghost use Rattle.ripng_world.specs.Common.{IsLongestMatch, IsMatch, Prefix6, cleared, forward, forwards, network_now, HandsOn, forwardings_of, EndsAt, IsPath, LeadsTo, is_on, Hop as WalkHop, past_of, PathValue};
+ghost use Rattle.std.specs.Prelude.{◌≡◌, ◌<◌, ◌≤◌, ◌≢◌, ◌^◌, ◌⊎◌, ◌↔◌, IfErr, IfOk, IfSome, IsNone, length, option_map, position};
+ghost use Rattle.ripng_world.specs.Common.{IsLongestMatch, IsMatch, Prefix6, cleared, forwards, network_now, HandsOn, forwardings_of, EndsAt, IsPath, LeadsTo, is_on, Hop as WalkHop, past_of, PathValue};
 ghost use Rattle.std.specs.FinMap as map_of;
 
 use crate::event::LabError;
@@ -11,7 +11,7 @@ use crate::running::Running;
 use crate::station::interface_at;
 use fib::Hop;
 use prefix6::{Addr6, Prefix};
-use route_table::{INFINITY, Origin, Route, RouteStore};
+use route_table::{INFINITY, Origin, RouteStore};
 use std::alloc::AllocError;
 use std::marker::Model;
 
@@ -67,11 +67,16 @@ impl Model for Path {
     ghost view = { λ p. record { hops = p.hops.items; end = p.end } };
 }
 
-/// Where packets go by a route, if it is there and not unreachable.
-fn hop_by(route: Option<Route>) -> Option<Hop>
-    ensures { result ≡ option_map (λ f. f.hop) (option_and_then forward route) }
+/// Where packets go by the prefix of that length that holds the address, if the table forwards to it.
+fn hop_at<S: RouteStore>(routes: &S, addr: Addr6, len: u8) -> Option<Hop>
+    requires { len ≤ 128 }
+    ensures value { result ≡ option_map (λ f. f.hop) (map_of.get (forwards (S.table routes.now)) (cleared addr len)) }
+    ensures in_range { addr < 2 ^ 128 }
 {
-    let route = route?;
+    let Ok(prefix) = Prefix::new(addr, len) else {
+        unreachable!()
+    };
+    let route = routes.get(&prefix)?;
     if route.metric() >= INFINITY {
         return None;
     }
@@ -83,18 +88,6 @@ fn hop_by(route: Option<Route>) -> Option<Hop>
             ..
         } => Some(Hop::Via { iface, next_hop }),
     }
-}
-
-/// Where packets go by the prefix of that length that holds the address, if the table forwards to it.
-fn hop_at<S: RouteStore>(routes: &S, addr: Addr6, len: u8) -> Option<Hop>
-    requires { len ≤ 128 }
-    ensures value { result ≡ option_map (λ f. f.hop) (map_of.get (forwards (S.table routes.now)) (cleared addr len)) }
-    ensures in_range { addr < 2 ^ 128 }
-{
-    let Ok(prefix) = Prefix::new(addr, len) else {
-        unreachable!()
-    };
-    hop_by(routes.get(&prefix))
 }
 
 /// The hop of the longest prefix that the table forwards to and that holds the address (RFC 4632, section 5.1; RFC 7608, section 2),
@@ -160,13 +153,8 @@ impl<S: RouteStore> Running<S> {
         ensures hop { IfOk result (HandsOn self.now.network (forwardings_of self.now.world) addr router) }
         ensures end { IfErr result (EndsAt self.now.network (forwardings_of self.now.world) addr router) }
     {
-        let Some(here) = self.router(router) else {
-            return Err(PathEnd::NoRoute);
-        };
-        let Some(hop) = longest_match(here.routes(), addr) else {
-            return Err(PathEnd::NoRoute);
-        };
-        match hop {
+        let here = self.router(router).ok_or(PathEnd::NoRoute)?;
+        match longest_match(here.routes(), addr).ok_or(PathEnd::NoRoute)? {
             Hop::Direct => Err(PathEnd::Delivered),
             Hop::Via { iface, next_hop } => self
                 .neighbor(router, iface, next_hop)

@@ -4,9 +4,8 @@
 ghost use Rattle.std.specs.Prelude.{◌≡◌, ℕ, ◌∷◌, [], Some, IfErr, IfOk, OnErr, length, slice_get, option_copied};
 ghost use Rattle.ripng_world.specs.Common.{result_err, first_reason, event_of, event_fault, HappensGiving, StepEnds, link_at, missing_interface_reasons, missing_router_reasons, lie_fault, Deliver, Stranger, is_heard, IsLieRefusal, LiesGiving, IfRefused, WatchedInPart, failures, refusal_in, LabValue, lab_of, coded_states};
 
-use crate::event::{Event, Happening, LabError};
+use crate::event::{Event, Happening, LabError, Sent};
 use crate::moving::{act, file, happen};
-use crate::sent::Sent;
 use crate::station::{Station, interface_at};
 use crate::watch::{Observer, Stopped};
 use ripng_wire::Command;

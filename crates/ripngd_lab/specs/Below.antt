@@ -17,7 +17,7 @@ pub use Rattle.ripng_world.specs.Watching.{Told, telling}
 pub use Rattle.ripng_world.specs.World.{Event, Tick, Stranger, Happens, IsCold, Deliver}
 pub use Rattle.ripng_world.specs.declared.path.PathEnd.{PathEnd}
 pub use Rattle.ripng_world.specs.declared.path.PathEnd.TheVariants.{Delivered, Loops}
-pub use Rattle.ripng_world.specs.declared.sent.Sent.{Sent}
+pub use Rattle.ripng_world.specs.declared.event.Sent.{Sent}
 pub use Rattle.ripng_world.specs.declared.watch.Stopped.{Stopped}
 pub use Rattle.ripng_world.specs.declared.watch.Stopped.TheVariants.{Refused as IsRefused, Failed as HasFailed}
 pub use Rattle.ripng_phases.specs.Making.{AreMadeInPart, AreMadePhases}

@@ -10,7 +10,7 @@ use Rattle.router_core.specs.declared.answer.Outgoing.{Outgoing}
 use Rattle.router_core.specs.declared.config.Interface.{Interface}
 use Rattle.router_core.specs.declared.reconfiguring.Change.{Change}
 use Rattle.route_table.proofs.TableLaws.{Some-same}
-use Rattle.ripng_world.specs.declared.sent.Sent.{Sent}
+use Rattle.ripng_world.specs.declared.event.Sent.{Sent}
 use Rattle.ripng_world.specs.Network.{Network, Node, config_of}
 use Rattle.ripng_world.specs.World as world
 use Rattle.ripng_world.specs.World.{World, Event, RouterMoves, Happens, arrival_of, sent_by}

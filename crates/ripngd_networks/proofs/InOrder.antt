@@ -2,7 +2,7 @@
 use Rattle.std.proofs.Common.{◌≡◌, ℕ, ◌+◌, ◌<◌, ◌≤◌, List, [], ◌∷◌, ◌++◌, length, Option, Some, slice_get, ap, ap₂, sym, subst, ◌∙◌, append_assoc, append-nil, arith}
 use Rattle.route_table.proofs.TableLaws.{Some-same}
 use Rattle.router_core.specs.declared.reconfiguring.Change.{Change}
-use Rattle.ripng_world.specs.declared.sent.Sent.{Sent}
+use Rattle.ripng_world.specs.declared.event.Sent.{Sent}
 use Rattle.ripng_world.specs.Network.{Network, config_of}
 use Rattle.ripng_world.specs.World as world
 use Rattle.ripng_world.specs.World.{World, address_at}

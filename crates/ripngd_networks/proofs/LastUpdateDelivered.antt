@@ -24,7 +24,7 @@ use Rattle.ripng_world.specs.Healing.{network_now}
 use Rattle.ripng_world.specs.Network.{Network, Node, AreLinked, IsNetwork, config_of, interface_at}
 use Rattle.ripng_world.specs.World.{World, Event, Deliver, Shutdown, Happens, IsCold, RouterMoves, WorldRun, address_at, past_of, sent_by}
 use Rattle.ripng_world.specs.declared.network.NetInterface.{NetInterface}
-use Rattle.ripng_world.specs.declared.sent.Sent.{Sent}
+use Rattle.ripng_world.specs.declared.event.Sent.{Sent}
 use Rattle.ripng_world.proofs.Among.{all_at, contains_at}
 use Rattle.ripng_world.proofs.Delivered.{sent_grow}
 use Rattle.ripng_world.proofs.Each.{each_at_place}

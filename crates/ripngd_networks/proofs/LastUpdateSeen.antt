@@ -14,7 +14,7 @@ use Rattle.router_core.specs.declared.answer.Answer.{Answer}
 use Rattle.ripng_world.specs.Network.{Network, Node, AreLinked, HasDistinctAddresses, IsUsable, config_of, interface_at}
 use Rattle.ripng_world.specs.World.{World, Event, Deliver, Stranger, Tick, Restart, Shutdown, LinkDown, LinkUp, Reconfigure, RouterMoves, Happens, WorldRun, address_at, arrival_of, is_heard}
 use Rattle.ripng_world.specs.declared.network.NetInterface.{NetInterface}
-use Rattle.ripng_world.specs.declared.sent.Sent.{Sent}
+use Rattle.ripng_world.specs.declared.event.Sent.{Sent}
 use Rattle.ripng_world.proofs.Delivered.{sent_grow}
 use Rattle.ripng_world.proofs.Each.{each_append, each_weaker}
 use Rattle.ripng_world.proofs.Members.{At, at_left, at_right, get_left}

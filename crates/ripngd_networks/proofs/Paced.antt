@@ -5,7 +5,7 @@ use Rattle.router_core.specs.Machine.{State}
 use Rattle.ripng_world.specs.Network.{Network, AreLinked}
 use Rattle.ripng_world.specs.Rounds.{IsDueTick, moment_of, router_of}
 use Rattle.ripng_world.specs.World.{World, Event, Deliver, Tick}
-use Rattle.ripng_world.specs.declared.sent.Sent.{Sent}
+use Rattle.ripng_world.specs.declared.event.Sent.{Sent}
 use Rattle.ripng_world.proofs.Members.{At, at_right}
 use Rattle.ripng_phases.specs.Minutes.{Timed, AreFrom, IsPromptDelivery, untimed}
 use Rattle.ripng_phases.specs.Phases.{Takes, IsCount, IsOvertaken, reached}

@@ -4,7 +4,7 @@ use Rattle.std.specs.List.{AllByRecursion, cons_option}
 use Rattle.std.proofs.lemmas.Bool.{eqb-true}
 use Rattle.route_table.proofs.TableLaws.{Some-same}
 use Rattle.router_core.specs.declared.reconfiguring.Change.{Change}
-use Rattle.ripng_world.specs.declared.sent.Sent.{Sent}
+use Rattle.ripng_world.specs.declared.event.Sent.{Sent}
 use Rattle.ripng_world.specs.Network.{Network, Node, config_of}
 use Rattle.ripng_world.specs.World.{World}
 use Rattle.ripng_phases.specs.Minutes.{Timed, AreFrom, untimed}

@@ -6,7 +6,7 @@ use Rattle.route_table.proofs.TableLaws.{Some-same}
 use Rattle.router_core.specs.Config.{Config}
 use Rattle.router_core.specs.Machine.{State}
 use Rattle.router_core.specs.declared.reconfiguring.Change.{Change}
-use Rattle.ripng_world.specs.declared.sent.Sent.{Sent}
+use Rattle.ripng_world.specs.declared.event.Sent.{Sent}
 use Rattle.ripng_world.specs.Network.{Network, Node, config_of}
 use Rattle.ripng_world.specs.World.{World, Event, WorldRun, IsCold}
 use Rattle.ripng_world.proofs.ColdStates.{cold_states}

@@ -2,7 +2,7 @@
 use Rattle.std.proofs.Common.{◌≡◌, ◌≢◌, ◌⊎◌, inl, inr, ℕ, ◌+◌, ◌-◌, ◌^◌, ◌<◌, ◌≤◌, List, [], ◌∷◌, ◌++◌, length, Contains, Option, Some, slice_get, ap, sym, subst, ◌∙◌, append_assoc, arith, le_trans}
 use Rattle.std.specs.List.{AllByRecursion}
 use Rattle.route_table.proofs.TableLaws.{Some-same}
-use Rattle.ripng_world.specs.declared.sent.Sent.{Sent}
+use Rattle.ripng_world.specs.declared.event.Sent.{Sent}
 use Rattle.ripng_world.specs.Network.{Network, AreLinked, config_of}
 use Rattle.ripng_world.proofs.Each.{each_at_place}
 use Rattle.ripng_world.proofs.Members.{At, at_from_contains, at_left, split_at}

@@ -8,7 +8,7 @@ use Rattle.fib.specs.Forwarding.{Forward}
 use Rattle.route_table.specs.Route.{RouteValue, infinity}
 use Rattle.route_table.proofs.TableLaws.{None-Some, get-map_values}
 use Rattle.router_core.specs.Changes.{forward, forwards, hop_of}
-use Rattle.ripng_world.specs.declared.sent.Sent.{Sent}
+use Rattle.ripng_world.specs.declared.event.Sent.{Sent}
 use Rattle.ripng_world.specs.Network.{Network, OwnsPrefixes, config_of}
 use Rattle.ripng_world.specs.Past.{IsBackedSince, IsLeastSince}
 use Rattle.ripng_world.specs.TruthSince.{IsSoundDatagramSince}

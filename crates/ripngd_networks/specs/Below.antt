@@ -13,7 +13,7 @@ pub use Rattle.ripng_world.specs.Past.{Past, IsBackedSince, IsLeastSince}
 pub use Rattle.ripng_world.specs.TruthSince.{IsSoundDatagramSince}
 pub use Rattle.ripng_world.specs.Walks.{IsLeast, IsBacked}
 pub use Rattle.ripng_world.specs.World.{World, Event, Deliver, is_heard, IsCold, WorldRun, address_at, is_to_group, sent_by, Shutdown, Happens}
-pub use Rattle.ripng_world.specs.declared.sent.Sent.{Sent}
+pub use Rattle.ripng_world.specs.declared.event.Sent.{Sent}
 pub use Rattle.ripngd_engine.specs.Changing.{ReconfiguresOnce, ShutsDownOnce, LinkGoesDownOnce, LinkComesUpOnce, ReconfiguresNothing, ReconfigureAnswer, StepAnswer}
 pub use Rattle.ripngd_engine.specs.Link.{Call, RecvFailed, Datagram, Gave, Handed}
 pub use Rattle.ripngd_engine.specs.Observer.{Processed}

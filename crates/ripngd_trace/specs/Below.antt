@@ -39,7 +39,7 @@ pub use Rattle.ripng_world.specs.Lying.{Lies}
 pub use Rattle.ripng_world.specs.Rounds.{moment_of, router_of}
 pub use Rattle.ripng_world.specs.Watching.{Told, telling}
 pub use Rattle.ripng_world.specs.World.{Event, Deliver, Stranger, Tick, Restart, Shutdown, LinkDown, LinkUp, Reconfigure, World, Happens, is_to_group}
-pub use Rattle.ripng_world.specs.declared.sent.Sent.{Sent}
+pub use Rattle.ripng_world.specs.declared.event.Sent.{Sent}
 pub use Rattle.ripngd_lab.specs.Asides.{Aside, NextLine, CountsPhases, Lie, Broken}
 pub use Rattle.ripngd_lab.specs.Plans.{addr_at}
 pub use Rattle.ripngd_lab.specs.ScriptWatching.{StartsAt}

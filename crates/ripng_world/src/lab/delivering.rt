@@ -4,9 +4,8 @@ ghost use Rattle.std.specs.Prelude.{◌≡◌, ◌≢◌, ℕ, ◌<◌, ◌∷�
 ghost use Rattle.ripng_world.specs.Common.{NoMemory, deliveries_of, delivery, interfaces_of, is_other, is_picked, other_deliveries, pairs_since, picked_deliveries, StopAt, StopForMemory, deliveries_since, Keeps, HeardInPart, WatchedInPart, WatchedRun, failures, heard, WorldRun};
 
 use super::Lab;
-use crate::event::Event;
+use crate::event::{Event, Sent};
 use crate::running::Running;
-use crate::sent::Sent;
 use crate::watch::{Observer, Stopped, Unwatched};
 use route_table::{Moment, RouteStore};
 use router_core::{Note, NoteKind};
@@ -34,8 +33,11 @@ impl<S: RouteStore> Running<S> {
         }
     }
 
-    /// The other interfaces of a datagram's link, each after its router's number, in order.
-    fn receivers(&self, datagram: &Sent) -> Result<Vec<(usize, usize)>, AllocError>
+    /// The other interfaces of a datagram's link, each after its router's number, in order: where it may come.
+    ///
+    /// # Errors
+    /// Out of memory.
+    pub fn receivers(&self, datagram: &Sent) -> Result<Vec<(usize, usize)>, AllocError>
         ensures { IfOk result (λ receivers. receivers.items ≡ filter (is_other self.now.network datagram.now) (interfaces_of self.now.network)) }
     {
         let mut receivers = Vec::new(self.alloc);
@@ -77,16 +79,6 @@ pub fn wants_memory(notes: &[Note]) -> bool
 }
 
 impl<S: RouteStore> Lab<S> {
-    /// The other interfaces of a datagram's link, each after its router's number, in order: where it may come.
-    ///
-    /// # Errors
-    /// Out of memory.
-    pub fn receivers(&self, datagram: &Sent) -> Result<Vec<(usize, usize)>, AllocError>
-        ensures { IfOk result (λ receivers. receivers.items ≡ filter (is_other self.now.network datagram.now) (interfaces_of self.now.network)) }
-    {
-        self.running.receivers(datagram)
-    }
-
     /// A datagram comes to an interface of its link.
     fn deliver<V: Observer<S>>(
         &mut self,

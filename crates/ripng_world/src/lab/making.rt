@@ -1,19 +1,62 @@
 //! Rounds of a lab: every router advertises its whole table, and all of it arrives.
 
-ghost use Rattle.std.specs.Prelude.{◌≡◌, ℕ, ◌<◌, ◌↔◌, max, IsTrue, All, IfErr, OnOk, Some, length, slice_get};
-ghost use Rattle.ripng_world.specs.Common.{State, AreAllMade, Converges, Heals, LetsArrive, Keeps, IsDueTick, HaveStopped, RoundStops, RoundsStop, round_in, AreMadeTold, IfRefused, IsMadeTold, RoundToldInPart, RoundsToldInPart, failures, Tick};
+ghost use Rattle.std.specs.Prelude.{◌≡◌, ℕ, ◌<◌, ◌↔◌, IsTrue, All, IfErr, OnOk, Some, length, slice_get};
+ghost use Rattle.ripng_world.specs.Common.{State, AreAllMade, Converges, Heals, LetsArrive, Keeps, IsDueTick, HaveStopped, RoundStops, RoundsStop, round_in, stop_name, AreMadeTold, IfRefused, IsMadeTold, RoundToldInPart, RoundsToldInPart, failures, Tick};
 
 use super::Lab;
 use crate::event::Event;
-use crate::rounds::{Round, RoundsRefused};
 use crate::watch::{Observer, Stopped, Unwatched};
 use route_table::{Moment, RouteStore};
+use std::marker::Model;
 
-/// A moment before the last one counts as that.
-fn later(last: Moment, now: Moment) -> Moment
-    ensures { result ≡ max last now }
-{
-    last.max(now)
+/// A round of a network: each router ticks once, in order, and then each datagram of these ticks comes to each other interface
+/// of its link. The pairs of such a datagram and such an interface stand in the order of datagrams, then of routers, then of
+/// interfaces.
+#[derive(Drop)]
+pub struct Round<'a> {
+    /// The moment and the random number of each router's tick, in the order of routers.
+    pub ticks: &'a [(Moment, u32)],
+    /// The deliveries that come first, in order: a number, which picks a pair (modulo the number of pairs), and the moment.
+    pub picks: &'a [(u32, Moment)],
+    /// When each pair that was not picked is delivered, in order.
+    pub rest: Moment,
+}
+
+impl<'a> Model for Round<'a> {
+    ghost use Rattle.ripng_world.specs.Asked.{Asked};
+
+    ghost Value = { Asked };
+
+    ghost view = { λ r. record { ticks = r.ticks.now; picks = r.picks.now; rest = r.rest } };
+}
+
+/// Why rounds stop. All earlier events are done.
+#[derive(Clone, Copy, Debug, PartialEq, Eq)]
+pub enum RoundsRefused {
+    /// The regular update of a router is not due at its tick. That tick is not done.
+    NoRegularUpdate {
+        /// The number of the round, from 0.
+        round: usize,
+        /// The number of the router.
+        router: usize,
+    },
+    /// Memory was refused, or ran out in a router for a new route.
+    OutOfMemory {
+        /// The number of the round, from 0.
+        round: usize,
+    },
+}
+
+impl RoundsRefused {
+    /// The name of the refusal, one word, and its number, 41 or 42.
+    pub fn name_and_number(self) -> (&'static str, u8)
+        ensures { (result.0.now, result.1) ≡ stop_name self }
+    {
+        match self {
+            RoundsRefused::NoRegularUpdate { .. } => ("NoRegularUpdate", 41),
+            RoundsRefused::OutOfMemory { .. } => ("OutOfMemory", 42),
+        }
+    }
 }
 
 impl<S: RouteStore> Lab<S> {
@@ -22,11 +65,8 @@ impl<S: RouteStore> Lab<S> {
         ensures due { (word : ℕ) → IsTrue result ↔ IsDueTick self.now.world (Tick router now word) }
         ensures there { router < length self.now.network → (state : State) × (slice_get self.now.world.states router ≡ Some state) }
     {
-        match self.running.stations.get(router) {
-            Some(station) => {
-                let router = station.router();
-                router.regular().reached(later(router.last(), now))
-            }
+        match self.running.router(router) {
+            Some(router) => router.regular().reached(router.last().max(now)),
             None => false,
         }
     }

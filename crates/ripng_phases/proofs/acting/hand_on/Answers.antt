@@ -4,7 +4,8 @@ use Rattle.std.proofs.lemmas.List.{take_all}
 use Rattle.std.proofs.lemmas.Option.{slice_get-get_or}
 use Rattle.route_table.proofs.TableLaws.{Some-same}
 use Rattle.ripng_world.specs.AskedRounds.{interfaces_of, is_other}
-use Rattle.ripng_world.specs.declared.sent.Sent.{Sent}
+use Rattle.ripng_world.specs.Labs.{LabValue}
+use Rattle.ripng_world.specs.declared.event.Sent.{Sent}
 use Rattle.ripng_phases.specs.Making.{IsHanded}
 use Rattle.ripng_phases.specs.declared.refused.PhaseRefused.TheVariants.{OutOfMemory}
 use Rattle.ripng_phases.proofs.Going.{handed}
@@ -52,4 +53,4 @@ returns-clause-goes g c = λ s first begin u.
     (take_all c.loop-router.router-index c.deref-router-items.result.now (omega (arith, c.loop-router-test.false))) c.loop-router.invariant.handed in
     handed g.V.Observer.takes s first begin c.args.course.now (c.args.lab.now, c.args.watch.now) (c.loop-router.lab, c.loop-router.watch) u c.loop-router.invariant.network c.keeps-keeps.result c.in-Ok.receivers.items
     (rw c.deref-router-items.ensures.value at all) _ c.keeps-keeps.ensures
-    (λ d at. c.in-Ok.ensures ∙ ap (λ (x : Sent). filter (is_other net x) (interfaces_of net)) (Some-same sent d (sym sent_is ∙ at))) c.requires.next refl
+    (λ d at. c.in-Ok.ensures ∙ ap (λ (l : LabValue). filter (is_other l.network sent) (interfaces_of l.network)) c.running.ensures ∙ ap (λ (x : Sent). filter (is_other net x) (interfaces_of net)) (Some-same sent d (sym sent_is ∙ at))) c.requires.next refl

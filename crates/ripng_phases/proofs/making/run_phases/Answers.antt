@@ -17,7 +17,7 @@ loop-done-init g c =
 pub returns-in-Err-clause-stopped : goal.returns-in-Err-clause-stopped
 returns-in-Err-clause-stopped g c =
     in_part g.V.Observer.takes c.args.lab.now.network (c.args.lab.now.world, c.args.watch.now) c.loop-done.done c.loop-done.begin c.loop-done.first c.loop-done.last (c.loop-done.lab, c.loop-done.watch) c.loop-done.invariant.so_far c.loop-done.invariant.network
-    g.V.Observer.fails c.in-Err.stopped (c.compare_phase.new.lab, c.compare_phase.new.watch) c.loop-done.invariant.begins.0 c.loop-done.invariant.begins.1 c.loop-done.invariant.begins.2 c.in-Err.ensures.stopped
+    g.V.Observer.fails c.in-Err.stopped (c.make_phase.new.lab, c.make_phase.new.watch) c.loop-done.invariant.begins.0 c.loop-done.invariant.begins.1 c.loop-done.invariant.begins.2 c.in-Err.ensures.stopped
 
 pub returns-in-Err-clause-network : goal.returns-in-Err-clause-network
 returns-in-Err-clause-network g c = c.in-Err.ensures.stopped.network ∙ c.loop-done.invariant.network
@@ -31,10 +31,10 @@ loop-done-preserved g c =
     record {
       network = c.in-Ok.ensures.made.network ∙ c.loop-done.invariant.network;
       so_far =
-          subst (λ (last : Option ℕ). AreSoFar g.V.Observer.takes c.args.lab.now.network (c.args.lab.now.world, c.args.watch.now) (c.loop-done.done + 1) (c.loop-done.begin + 60_000) c.in-Ok.next last (c.compare_phase.new.lab.world, c.compare_phase.new.watch))
+          subst (λ (last : Option ℕ). AreSoFar g.V.Observer.takes c.args.lab.now.network (c.args.lab.now.world, c.args.watch.now) (c.loop-done.done + 1) (c.loop-done.begin + 60_000) c.in-Ok.next last (c.make_phase.new.lab.world, c.make_phase.new.watch))
           (sym last_is)
           (one_more g.V.Observer.takes c.args.lab.now.network (c.args.lab.now.world, c.args.watch.now) c.loop-done.done c.loop-done.begin c.loop-done.first c.loop-done.last (c.loop-done.lab, c.loop-done.watch) c.loop-done.invariant.so_far
-          c.loop-done.invariant.network c.in-Ok.next c.in-Ok.stays (c.compare_phase.new.lab, c.compare_phase.new.watch) c.in-Ok.ensures.made c.in-Ok.ensures.compared);
+          c.loop-done.invariant.network c.in-Ok.next c.in-Ok.stays (c.make_phase.new.lab, c.make_phase.new.watch) c.in-Ok.ensures.made c.in-Ok.ensures.compared);
       begins = let b = c.loop-done.invariant.begins in (b.0, b.1, (let e = b.2 in omega (arith, e)));
       within = c.in-Ok.ensures.made.next_in;
     }

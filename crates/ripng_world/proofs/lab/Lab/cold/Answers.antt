@@ -7,7 +7,7 @@ use Rattle.ripng_world.specs.Labs.{HasRun}
 use Rattle.ripng_world.specs.Network.{Network, Node, IsNetwork, config_of}
 use Rattle.ripng_world.specs.Stations.{network_of, world_of}
 use Rattle.ripng_world.specs.World.{IsCold, sent_by}
-use Rattle.ripng_world.specs.declared.sent.Sent.{Sent}
+use Rattle.ripng_world.specs.declared.event.Sent.{Sent}
 use Rattle.ripng_world.proofs.LabRuns.{all_cold, all_listed, cold_on, keeps, listed_on, next_room, room_left, started_few}
 use Rattle.ripng_world.proofs.lab.Lab.cold.Goals as goal
 

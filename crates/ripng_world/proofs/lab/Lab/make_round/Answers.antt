@@ -8,8 +8,8 @@ use Rattle.ripng_world.specs.AskedRounds.{deliveries_of, pairs_since, ticks_of}
 use Rattle.ripng_world.specs.Network.{Network}
 use Rattle.ripng_world.specs.Watching.{HeardInPart, Told, WatchedRun, due, failures, heard}
 use Rattle.ripng_world.specs.World.{World, Event, Tick}
-use Rattle.ripng_world.specs.declared.rounds.RoundsRefused.TheVariants.{OutOfMemory}
-use Rattle.ripng_world.specs.declared.sent.Sent.{Sent}
+use Rattle.ripng_world.specs.declared.lab.making.RoundsRefused.TheVariants.{OutOfMemory}
+use Rattle.ripng_world.specs.declared.event.Sent.{Sent}
 use Rattle.ripng_world.specs.declared.watch.Stopped.{Stopped}
 use Rattle.ripng_world.proofs.AskedRuns.{take_tick, tick_at, undue}
 use Rattle.ripng_world.proofs.Delivered.{heard_part, stop_at}

@@ -8,7 +8,7 @@ use Rattle.ripng_world.specs.Stopping.{RoundStops, RoundsStop}
 use Rattle.ripng_world.specs.Asked.{Asked}
 use Rattle.ripng_world.specs.Watching.{AreMadeTold, IsMadeTold, RoundToldInPart, Told, failures}
 use Rattle.ripng_world.specs.World.{World}
-use Rattle.ripng_world.specs.declared.rounds.RoundsRefused.{RoundsRefused}
+use Rattle.ripng_world.specs.declared.lab.making.RoundsRefused.{RoundsRefused}
 use Rattle.ripng_world.specs.declared.watch.Stopped.{Stopped}
 use Rattle.ripng_world.proofs.AskedSynchronous.{all_made, converging}
 use Rattle.ripng_world.proofs.WatchedRounds.{rounds_still, rounds_stopped, told_more}

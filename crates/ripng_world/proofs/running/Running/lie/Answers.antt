@@ -5,7 +5,7 @@ use Rattle.ripng_world.specs.Labs.{LabValue, lab_of}
 use Rattle.ripng_world.specs.Lying.{IsLieRefusal, lie_fault}
 use Rattle.ripng_world.specs.Stations.{StationValue, IsMoveAt}
 use Rattle.ripng_world.specs.World.{sent_by}
-use Rattle.ripng_world.specs.declared.sent.Sent.{Sent}
+use Rattle.ripng_world.specs.declared.event.Sent.{Sent}
 use Rattle.ripng_world.proofs.LabRuns.{written_back}
 use Rattle.ripng_world.proofs.Lied.{liar, liar_within, lied}
 use Rattle.ripng_world.proofs.StationMoves.{err_is, interface_within, kept_at}

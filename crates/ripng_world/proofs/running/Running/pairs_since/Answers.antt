@@ -7,7 +7,7 @@ use Rattle.ripng_world.specs.AskedRounds.{is_other, pair_at, interfaces_of}
 use Rattle.ripng_world.specs.Labs.{LabValue}
 use Rattle.ripng_world.specs.Network.{Network}
 use Rattle.ripng_world.specs.declared.lab.delivering.Pair.{Pair}
-use Rattle.ripng_world.specs.declared.sent.Sent.{Sent}
+use Rattle.ripng_world.specs.declared.event.Sent.{Sent}
 use Rattle.ripng_world.proofs.Among.{numbered_more, flat_grows}
 use Rattle.ripng_world.proofs.running.Running.pairs_since.Goals as goal
 

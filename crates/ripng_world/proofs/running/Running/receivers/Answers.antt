@@ -10,7 +10,7 @@ use Rattle.ripng_world.specs.Labs.{LabValue}
 use Rattle.ripng_world.specs.Network.{Network, Node}
 use Rattle.ripng_world.specs.Stations.{StationValue, network_of}
 use Rattle.ripng_world.specs.declared.network.NetInterface.{NetInterface}
-use Rattle.ripng_world.specs.declared.sent.Sent.{Sent}
+use Rattle.ripng_world.specs.declared.event.Sent.{Sent}
 use Rattle.ripng_world.proofs.Among.{enumerate_more, flat_grows}
 use Rattle.ripng_world.proofs.running.Running.receivers.Goals as goal
 

@@ -5,7 +5,7 @@ use Rattle.ripng_world.specs.Labs.{IsRefusal, LabValue, event_fault, lab_of}
 use Rattle.ripng_world.specs.Rounds.{router_of}
 use Rattle.ripng_world.specs.Stations.{StationValue, MoveStations, network_of, world_of}
 use Rattle.ripng_world.specs.World.{Happens, reconfigurations_in, sent_by}
-use Rattle.ripng_world.specs.declared.sent.Sent.{Sent}
+use Rattle.ripng_world.specs.declared.event.Sent.{Sent}
 use Rattle.ripng_world.proofs.LabRuns.{stepped, written_back}
 use Rattle.ripng_world.proofs.StationMoves.{happened_passes, refused_first, step_refused}
 use Rattle.ripng_world.proofs.running.Running.step.Goals as goal
