@@ -8,10 +8,8 @@ use Rattle.std.proofs.lemmas.List.{append-nil, map-append, length-map, length-ap
 use Rattle.router_core.specs.Machine.{State, Starts}
 use Rattle.router_core.specs.declared.answer.Answer.{Answer}
 use Rattle.ripng_world.specs.Network.{Network, Node, config_of}
-use Rattle.router_core.specs.declared.reconfiguring.Change.{Change}
-use Rattle.ripng_world.specs.World.{World, Event, Happens, WorldRun, IsCold, StartsFrom, reconfigurations_in, past_of, sent_by}
-use Rattle.ripng_world.specs.Rounds.{router_of}
-use Rattle.ripng_world.specs.Stations.{StationValue, MoveStations, network_of, world_of}
+use Rattle.ripng_world.specs.World.{World, Event, Happens, WorldRun, IsCold, StartsFrom, past_of, sent_by}
+use Rattle.ripng_world.specs.Stations.{StationValue, network_of, world_of}
 use Rattle.ripng_world.specs.Labs.{LabValue, HasRun, HappensGiving, AreRoutesBacked, AreRoutesBackedSince, HaveNoneBelowLeast, HaveNoneBelowLeastSince, AreDatagramsSoundSince, HoldsFixed, Keeps}
 use Rattle.ripng_world.specs.Truth.{IsSoundDatagram}
 use Rattle.ripng_world.specs.TruthSince.{IsSoundDatagramSince}
@@ -78,14 +76,6 @@ keeps lab has_run =
 
 pub one_event : (net : Network) (w w' : World) (e : Event) (answer : Answer) → Happens net w e answer w' → WorldRun net w (e ∷ []) w'
 one_event net w w' e answer happens = (w', answer, happens, refl)
-
--- a move of stations, once what was sent is added
-module _ (old new : List StationValue) (sent sent' : List Sent) (reconfigurations reconfigurations' : List (ℕ × Change)) (e : Event) (answer : Answer) (moves : MoveStations old sent reconfigurations e answer new)
-    (added : sent' ≡ sent ++ map (sent_by (router_of e)) answer.sends) (done : reconfigurations' ≡ reconfigurations ++ reconfigurations_in (e ∷ [])) where
-  pub stepped : Happens (network_of old) (world_of old sent reconfigurations) e answer (world_of new sent' reconfigurations')
-  stepped =
-      subst (λ (ds : List Sent). Happens (network_of old) (world_of old sent reconfigurations) e answer (world_of new ds reconfigurations')) (sym added)
-      (subst (λ (cs : List (ℕ × Change)). Happens (network_of old) (world_of old sent reconfigurations) e answer (world_of new (sent ++ map (sent_by (router_of e)) answer.sends) cs)) (sym done) moves.happens)
 
 -- a lab has run on, once its routers have done an event or refused it
 pub step_on : (lab lab' : LabValue) (e : Event) (r : Result Answer LabError) → IfOk r (λ answer. HappensGiving lab e answer lab'.world) → lab'.network ≡ lab.network → IfSome (result_err r) (λ _. lab' ≡ lab)

@@ -1,12 +1,13 @@
 -- How the move of a router at its place moves the world, and what it means that nothing refuses an event.
-use Rattle.std.proofs.Common.{◌≡◌, inl, inr, ℕ, zero, suc, ◌<◌, ◌≤◌, ◌+◌, max, ◌++◌, not, Bool, true, false, cond, ◌==◌, ◌&&◌, nat_le, unwrap_or, List, [], ◌∷◌, map, length, Option, Some, None, is_none, option_map, option_and_then, slice_get, slice_set, refl, ap, sym, subst, ◌∙◌, arith}
-use Rattle.std.specs.Prelude.{Result, Ok, Err, IfErr}
+use Rattle.std.proofs.Common.{◌≡◌, inl, inr, ℕ, zero, suc, ◌<◌, ◌++◌, not, Bool, true, false, cond, ◌==◌, ◌&&◌, nat_le, unwrap_or, List, [], ◌∷◌, map, length, get_or, Option, Some, None, is_none, option_map, option_and_then, slice_get, slice_set, refl, ap, sym, subst, ◌∙◌, arith}
+use Rattle.std.specs.Prelude.{Result, Ok, Err, IfErr, IfOk, OnErr}
 use Rattle.std.specs.Result.{IsErrAnd, result_err}
 use Rattle.std.specs.Option.{option_map_or}
 use Rattle.std.proofs.lemmas.List.{append-nil, length-map}
 use Rattle.std.proofs.lemmas.Bool.{eqb-true}
 use Rattle.std.proofs.lemmas.Bool.Decides.{nat_tests}
-use Rattle.std.proofs.lemmas.Option.{slice_get-map, slice_get_within}
+use Rattle.std.proofs.lemmas.Option.{slice_get-map, slice_get-get_or, slice_get_cases, slice_get_within, get_or_from_slice_get}
+use Rattle.route_table.proofs.TableLaws.{Some-same}
 use Rattle.ripng_wire.specs.Wire.{first_reason}
 use Rattle.ripng_wire.proofs.FirstReason.{each_passes}
 use Rattle.router_core.proofs.ReasonsOfEach.{first_reason-append, first_reason-found}
@@ -14,21 +15,25 @@ use Rattle.ripng_world.proofs.NetworkLaws.{first_reason-map}
 use Rattle.prefix6.specs.Prefix.{is_routable}
 use Rattle.std.specs.FinMap as map_of
 use Rattle.route_table.specs.Table.{table_limit}
-use Rattle.router_core.specs.Config.{Config, has_prefix, is_usable_cost}
+use Rattle.router_core.specs.Config.{has_prefix, is_usable_cost}
 use Rattle.router_core.specs.Config.{owned_limit}
 use Rattle.router_core.specs.Machine.{State, Happening, Arrives, Ticks, Restarts, Reconfigures, ShutsDown, LinkGoesDown, LinkComesUp, Moves}
 use Rattle.router_core.specs.Received.{Received}
 use Rattle.router_core.specs.declared.answer.Answer.{Answer}
-use Rattle.ripng_world.specs.Network.{Node, AreLinked, config_of, interface_at}
+use Rattle.ripng_world.specs.Network.{Network, Node, AreLinked, config_of, interface_at}
 use Rattle.router_core.specs.Reconfiguring.{NamesInterface, reconfigure_fault, reconfigure_reasons}
 use Rattle.router_core.specs.declared.reconfiguring.Change.{Change}
 use Rattle.router_core.specs.declared.reconfiguring.Change.TheVariants.{Cost, Own, Disown}
 use Rattle.router_core.specs.declared.reconfiguring.ReconfigureRefused.{ReconfigureRefused}
 use Rattle.router_core.specs.declared.reconfiguring.ReconfigureRefused.TheVariants as refused
 use Rattle.ripng_world.specs.Rounds.{router_of}
-use Rattle.ripng_world.specs.World.{World, Event, RouterMoves, Happens, Deliver, Stranger, Tick, Restart, Shutdown, LinkDown, LinkUp, Reconfigure, reconfigurations_in, reconfigurations_of, is_heard, arrival_of, sent_by}
-use Rattle.ripng_world.specs.Stations.{StationValue, IsMoveAt, IsPlaced, MoveStations, network_of, world_of}
-use Rattle.ripng_world.specs.Labs.{LabValue, IsRefusal, StepEnds, asked_reasons, lab_of, event_fault, event_reasons, missing_router_reasons, missing_interface_reasons, named_reasons, refusal_of, step_fault, is_one_link, link_at, link_of_datagram}
+use Rattle.ripng_world.specs.World.{World, Event, RouterMoves, Happens, Deliver, Stranger, Tick, Restart, Shutdown, LinkDown, LinkUp, Reconfigure, reconfigurations_in, reconfigurations_of, is_heard, arrival_from, address_at, sent_by}
+use Rattle.ripng_world.specs.Events.{event_of}
+use Rattle.ripng_world.specs.declared.event.Event as coded
+use Rattle.ripng_world.specs.declared.event.Event.TheVariants as variants
+use Rattle.ripng_world.specs.Stations.{StationValue, IsFor, IsPlaced, network_of, world_of}
+use Rattle.ripng_world.specs.Labs.{LabValue, Acts, IsOwnRefusal, IsPlacedIn, IsRefusal, StepEnds, asked_reasons, lab_of, event_fault, event_reasons, is_heard_at, missing_router_reasons, missing_interface_reasons, named_reasons, refusal_of, step_fault, is_one_link, link_at, link_of_datagram}
+use Rattle.ripng_world.specs.Lying.{LiesGiving, lie_fault, lie_reasons}
 use Rattle.ripng_world.specs.declared.event.LabError.{LabError}
 use Rattle.ripng_world.specs.declared.network.NetInterface.{NetInterface}
 use Rattle.ripng_world.specs.declared.event.Sent.{Sent}
@@ -51,38 +56,6 @@ module _ (stations : List StationValue) (router : ℕ) (old new : StationValue) 
       map-slice_set (λ s. s.node) stations router new
       ∙ ap (slice_set (network_of stations) router) same
       ∙ slice_set_same (network_of stations) router old.node (slice_get-map (λ (s : StationValue). s.node) stations router ∙ ap (option_map (λ (s : StationValue). s.node)) old_is)
-
-  pub router_moves : (sent : List Sent) (reconfigurations : List (ℕ × Change)) (happening : Happening) (answer : Answer) → Moves old.state happening answer new.state
-      → RouterMoves (world_of stations sent reconfigurations) router happening answer
-      (world_of (slice_set stations router new) (sent ++ map (sent_by router) answer.sends) (reconfigurations ++ reconfigurations_of router happening))
-  router_moves sent reconfigurations happening answer moves =
-      record {
-        old = old.state;
-        new = new.state;
-        old_is = slice_get-map (λ (s : StationValue). s.state) stations router ∙ ap (option_map (λ (s : StationValue). s.state)) old_is;
-        moves = moves;
-        states = map-slice_set (λ s. s.state) stations router new;
-        sent = refl;
-        reconfigurations = refl;
-      }
-
--- the same, said of what the stations became
-module _ (stations stations' : List StationValue) (router : ℕ) (happening : Happening) (answer : Answer) (m : IsMoveAt stations router happening answer stations') where
-  pub kept_at : network_of stations' ≡ network_of stations
-  kept_at = ap network_of m.stations_are ∙ network_kept stations router m.old m.new m.old_is m.node
-
-  unfoldable pub moved_at : (sent sent' : List Sent) (reconfigurations reconfigurations' : List (ℕ × Change)) → sent' ≡ sent ++ map (sent_by router) answer.sends → reconfigurations' ≡ reconfigurations ++ reconfigurations_of router happening
-      → RouterMoves (world_of stations sent reconfigurations) router happening answer (world_of stations' sent' reconfigurations')
-  moved_at sent sent' reconfigurations reconfigurations' added done =
-      record {
-        old = m.old.state;
-        new = m.new.state;
-        old_is = slice_get-map (λ (s : StationValue). s.state) stations router ∙ ap (option_map (λ (s : StationValue). s.state)) m.old_is;
-        moves = m.moves;
-        states = ap (map (λ (s : StationValue). s.state)) m.stations_are ∙ map-slice_set (λ (s : StationValue). s.state) stations router m.new;
-        sent = added;
-        reconfigurations = done;
-      }
 
 -- ---- nothing refuses an event
 
@@ -107,232 +80,242 @@ one_link (Some a) (Some b) e = (a, refl, ap Some (sym (eqb-true a b (twice (a ==
 one_link None p e = absurd (cc)
 one_link (Some a) None e = absurd (cc)
 
--- the router of an interface
-pub within : (stations : List StationValue) (router iface : ℕ) (i : NetInterface) → interface_at (network_of stations) router iface ≡ Some i → router < length stations
-within stations router iface i is =
-    let node = then_of (λ (n : Node). slice_get n.interfaces iface) (slice_get (network_of stations) router) i is in
-    let s = mapped_of (λ (t : StationValue). t.node) (slice_get stations router) node.0 (sym (slice_get-map (λ (t : StationValue). t.node) stations router) ∙ node.1) in
-    slice_get_within stations router s.0 s.1
-
-pub interface_within : (stations : List StationValue) (router iface : ℕ) (i : NetInterface) (s : StationValue) → interface_at (network_of stations) router iface ≡ Some i
-    → slice_get stations router ≡ Some s → iface < length s.node.interfaces
-interface_within stations router iface i s is here =
-    let node : slice_get (network_of stations) router ≡ Some s.node = slice_get-map (λ (t : StationValue). t.node) stations router ∙ ap (option_map (λ (t : StationValue). t.node)) here in
-    slice_get_within s.node.interfaces iface i (sym (ap (option_and_then (λ (n : Node). slice_get n.interfaces iface)) node) ∙ is)
-
--- a datagram that may be delivered was sent
-pub was_sent : (stations : List StationValue) (sent : List Sent) (datagram router iface now : ℕ)
-    → event_fault (lab_of stations sent []) (Deliver datagram router iface now) ≡ None → datagram < length sent
-was_sent stations sent datagram router iface now none =
-    let passes = each_passes (event_reasons (lab_of stations sent []) (Deliver datagram router iface now)) none in
-    let h = passes.1.1.0 in
-    grind (arith, nat_tests, h)
-
--- it comes to an interface that is there
-delivery_placed : (stations : List StationValue) (sent : List Sent) (datagram router iface now : ℕ)
-    → event_fault (lab_of stations sent []) (Deliver datagram router iface now) ≡ None → (i : NetInterface) × (interface_at (network_of stations) router iface ≡ Some i)
-delivery_placed stations sent datagram router iface now none =
-    some_of (interface_at (network_of stations) router iface) (each_passes (event_reasons (lab_of stations sent []) (Deliver datagram router iface now)) none).1.0
-
-pub delivery_within : (stations : List StationValue) (sent : List Sent) (datagram router iface now : ℕ)
-    → event_fault (lab_of stations sent []) (Deliver datagram router iface now) ≡ None → router < length stations
-delivery_within stations sent datagram router iface now none =
-    let placed = delivery_placed stations sent datagram router iface now none in
-    within stations router iface placed.0 placed.1
-
-pub delivery_interface : (stations : List StationValue) (sent : List Sent) (datagram router iface now : ℕ) (s : StationValue)
-    → event_fault (lab_of stations sent []) (Deliver datagram router iface now) ≡ None → slice_get stations router ≡ Some s → iface < length s.node.interfaces
-delivery_interface stations sent datagram router iface now s none here =
-    let placed = delivery_placed stations sent datagram router iface now none in
-    interface_within stations router iface placed.0 s placed.1 here
-
--- of the link that it was sent on
-pub delivery_linked : (stations : List StationValue) (sent : List Sent) (datagram router iface now : ℕ) (d : Sent)
-    → event_fault (lab_of stations sent []) (Deliver datagram router iface now) ≡ None → slice_get sent datagram ≡ Some d
-    → AreLinked (network_of stations) d.router d.iface router iface
-delivery_linked stations sent datagram router iface now d none is =
-    let net = network_of stations in
-    let passes = each_passes (event_reasons (lab_of stations sent []) (Deliver datagram router iface now)) none in
-    let link = one_link (link_of_datagram (lab_of stations sent []) datagram) (link_at net router iface) passes.1.1.1.0 in
-    let there = mapped_of (λ (i : NetInterface). i.link) (interface_at net router iface) link.0 link.2 in
-    let own : link_at net d.router d.iface ≡ Some link.0 = sym (ap (option_and_then (λ (s : Sent). link_at net s.router s.iface)) is) ∙ link.1 in
-    let here = mapped_of (λ (i : NetInterface). i.link) (interface_at net d.router d.iface) link.0 own in
-    record { here = here.0; there = there.0; here_is = here.1; there_is = there.1; same_link = here.2 ∙ sym there.2 }
-
-pub delivered : (stations : List StationValue) (sent : List Sent) (datagram router iface now : ℕ) (d : Sent) (old new : StationValue) (answer : Answer)
-    → event_fault (lab_of stations sent []) (Deliver datagram router iface now) ≡ None → slice_get sent datagram ≡ Some d
-    → slice_get stations router ≡ Some old → new.node ≡ old.node
-    → Moves old.state (Arrives (arrival_of (network_of stations) d iface now)) answer new.state
-    → (reconfigurations : List (ℕ × Change)) → MoveStations stations sent reconfigurations (Deliver datagram router iface now) answer (slice_set stations router new)
-delivered stations sent datagram router iface now d old new answer none sent_is old_is same moves reconfigurations =
-    record {
-      happens = record {
-        sent = d;
-        sent_is = sent_is;
-        linked = delivery_linked stations sent datagram router iface now d none sent_is;
-        moves = router_moves stations router old new old_is same sent reconfigurations (Arrives (arrival_of (network_of stations) d iface now)) answer moves;
-      };
-      network = network_kept stations router old new old_is same;
-    }
-
--- an arrival that may be a stranger's
-pub record IsStranger (stations : List StationValue) (router : ℕ) (x : Received) : Type 0 where
-  pub interface : NetInterface
-  pub interface_is : interface_at (network_of stations) router x.iface ≡ Some interface
-  pub unheard : (s : StationValue) → slice_get stations router ≡ Some s → is_heard s.state x ≡ false
-
-pub stranger : (stations : List StationValue) (sent : List Sent) (router : ℕ) (x : Received)
-    → event_fault (lab_of stations sent []) (Stranger router x) ≡ None → IsStranger stations router x
-stranger stations sent router x none =
-    let passes = each_passes (event_reasons (lab_of stations sent []) (Stranger router x)) none in
-    let i = some_of (interface_at (network_of stations) router x.iface) passes.1.0 in
-    record {
-      interface = i.0;
-      interface_is = i.1;
-      unheard = λ s here.
-          sym (ap (λ (o : Option State). option_map_or (λ t. is_heard t x) o false) (slice_get-map (λ (t : StationValue). t.state) stations router ∙ ap (option_map (λ (t : StationValue). t.state)) here))
-          ∙ passes.1.1.0;
-    }
-
-pub stranger_within : (stations : List StationValue) (sent : List Sent) (router : ℕ) (x : Received)
-    → event_fault (lab_of stations sent []) (Stranger router x) ≡ None → router < length stations
-stranger_within stations sent router x none =
-    let lawful = stranger stations sent router x none in
-    within stations router x.iface lawful.interface lawful.interface_is
-
-pub intruded : (stations stations' : List StationValue) (sent : List Sent) (router : ℕ) (x : Received) (answer : Answer)
-    → event_fault (lab_of stations sent []) (Stranger router x) ≡ None → IsMoveAt stations router (Arrives x) answer stations'
-    → (reconfigurations : List (ℕ × Change)) → MoveStations stations sent reconfigurations (Stranger router x) answer stations'
-unfolding moved_at
-intruded stations stations' sent router x answer none m reconfigurations =
-    let lawful = stranger stations sent router x none in
-    let here = interface_within stations router x.iface lawful.interface m.old lawful.interface_is m.old_is in
-    record {
-      happens = record {
-        moves = moved_at stations stations' router (Arrives x) answer m sent _ reconfigurations _ refl refl;
-        known = subst (λ (n : ℕ). x.iface < n) (sym m.lawful) here;
-        unheard = lawful.unheard m.old m.old_is;
-      };
-      network = kept_at stations stations' router (Arrives x) answer m;
-    }
-
--- room for an answer, where the table and the bytes are those that it was made for
-pub enough : (n size room capacity routes entries routes' entries' : ℕ) → n ≤ max routes entries → room ≡ max routes' entries' → routes' ≡ routes → entries' ≡ entries
-    → size + room ≤ capacity → size + n ≤ capacity
-enough n size room capacity routes entries routes' entries' few is same same' fits = omega arith
-
-pub enough_for : (n size room capacity most most' : ℕ) → n ≤ most → room ≡ most' → most' ≡ most → size + room ≤ capacity → size + n ≤ capacity
-enough_for n size room capacity most most' few is same fits = omega arith
+heard_if : (b : Bool) → not b ≡ false → b ≡ true
+heard_if true e = refl
+heard_if false e = absurd (cc)
 
 -- a router that must be there
-pub router_within : (stations : List StationValue) (router : ℕ) → first_reason (missing_router_reasons (network_of stations) router) ≡ None → router < length stations
-router_within stations router none =
-    let h = (each_passes (missing_router_reasons (network_of stations) router) none).0 in
-    let few : router < length (network_of stations) = grind (arith, nat_tests, h) in
-    subst (λ (n : ℕ). router < n) (length-map stations (λ (s : StationValue). s.node)) few
+router_there : (net : Network) (router : ℕ) → first_reason (missing_router_reasons net router) ≡ None → (node : Node) × (slice_get net router ≡ Some node)
+router_there net router none =
+    let h = (each_passes (missing_router_reasons net router) none).0 in
+    let few : router < length net = grind (arith, nat_tests, h) in
+    elim (slice_get_cases net router).1 [
+      | inl found ↦ (found.0, found.2)
+      | inr past ↦ absurd (omega (arith, past.0, few))
+    ]
 
--- and one of which an interface must be there
-pub interface_router_within : (stations : List StationValue) (router iface : ℕ) → first_reason (missing_interface_reasons (network_of stations) router iface) ≡ None → router < length stations
-interface_router_within stations router iface none =
-    let h = (each_passes (missing_interface_reasons (network_of stations) router iface) none).0 in
-    let few : router < length (network_of stations) = grind (arith, nat_tests, h) in
-    subst (λ (n : ℕ). router < n) (length-map stations (λ (s : StationValue). s.node)) few
+-- and so must be an interface
+interface_there : (net : Network) (router iface : ℕ) → is_none (interface_at net router iface) ≡ false → (node : Node) × (slice_get net router ≡ Some node) × (iface < length node.interfaces)
+interface_there net router iface there =
+    let i = some_of (interface_at net router iface) there in
+    let node = then_of (λ (n : Node). slice_get n.interfaces iface) (slice_get net router) i.0 i.1 in
+    (node.0, node.1, slice_get_within node.0.interfaces iface i.0 node.2)
+
+module _ (lab : LabValue) where
+  -- what the event names is there
+  pub placed : (e : Event) → event_fault lab e ≡ None → IsPlacedIn lab e
+  placed (Deliver datagram router iface now) none =
+      let passes = each_passes (event_reasons lab (Deliver datagram router iface now)) none in
+      let at = interface_there lab.network router iface passes.1.0 in
+      let h = passes.1.1.0 in
+      let few : datagram < length lab.world.sent = grind (arith, nat_tests, h) in
+      (at.0, at.1, (few, at.2))
+  placed (Stranger router x) none = interface_there lab.network router x.iface (each_passes (event_reasons lab (Stranger router x)) none).1.0
+  placed (Tick router now word) none = let at = router_there lab.network router none in (at.0, at.1, tt)
+  placed (Restart router now) none = let at = router_there lab.network router none in (at.0, at.1, tt)
+  placed (Shutdown router now) none = let at = router_there lab.network router none in (at.0, at.1, tt)
+  placed (LinkDown router now iface) none = let at = interface_there lab.network router iface (each_passes (missing_interface_reasons lab.network router iface) none).1.0 in (at.0, at.1, tt)
+  placed (LinkUp router now iface) none = let at = interface_there lab.network router iface (each_passes (missing_interface_reasons lab.network router iface) none).1.0 in (at.0, at.1, tt)
+  placed (Reconfigure router now c) none = named c none
+    where
+      named : (d : Change) → first_reason (named_reasons lab.network router d) ≡ None → (node : Node) × (slice_get lab.network router ≡ Some node) × NamesInterface (config_of node) d
+      named (Cost iface cost) e =
+          let at = interface_there lab.network router iface (each_passes (named_reasons lab.network router (Cost iface cost)) e).1.0 in
+          (at.0, at.1, subst (λ (n : ℕ). iface < n) (sym (length-map at.0.interfaces (λ (i : NetInterface). i.interface))) at.2)
+      named (Own p tag) e = let at = router_there lab.network router e in (at.0, at.1, tt)
+      named (Disown p) e = let at = router_there lab.network router e in (at.0, at.1, tt)
+
+  -- and a datagram comes to an interface of its link
+  linked : (datagram router iface now : ℕ) (d : Sent) → event_fault lab (Deliver datagram router iface now) ≡ None → slice_get lab.world.sent datagram ≡ Some d → AreLinked lab.network d.router d.iface router iface
+  linked datagram router iface now d none is =
+      let net = lab.network in
+      let passes = each_passes (event_reasons lab (Deliver datagram router iface now)) none in
+      let link = one_link (link_of_datagram lab datagram) (link_at net router iface) passes.1.1.1.0 in
+      let there = mapped_of (λ (i : NetInterface). i.link) (interface_at net router iface) link.0 link.2 in
+      let own : link_at net d.router d.iface ≡ Some link.0 = sym (ap (option_and_then (λ (s : Sent). link_at net s.router s.iface)) is) ∙ link.1 in
+      let here = mapped_of (λ (i : NetInterface). i.link) (interface_at net d.router d.iface) link.0 own in
+      record { here = here.0; there = there.0; here_is = here.1; there_is = there.1; same_link = here.2 ∙ sym there.2 }
+
+  -- an arrival comes to an interface of the state, where it does to one of the node
+  known : (router : ℕ) (x : Received) (s : State) → is_none (interface_at lab.network router x.iface) ≡ false
+      → ((node : Node) → slice_get lab.network router ≡ Some node → length s.config.interfaces ≡ length node.interfaces) → x.iface < length s.config.interfaces
+  known router x s there lawful =
+      let at = interface_there lab.network router x.iface there in
+      subst (λ (n : ℕ). x.iface < n) (sym (lawful at.0 at.1)) at.2
 
 -- ---- what an event is for its router
 
--- this, where it is no delivery and changes no configuration
-abbrev pub IsAs : Event → Happening → Type 0
-IsAs (Deliver datagram router iface now) h = ⊥
-IsAs (Stranger router x) h = h ≡ Arrives x
-IsAs (Tick router now word) h = h ≡ Ticks now word
-IsAs (Restart router now) h = h ≡ Restarts now
-IsAs (Shutdown router now) h = h ≡ ShutsDown now
-IsAs (LinkDown router now iface) h = h ≡ LinkGoesDown now iface
-IsAs (LinkUp router now iface) h = h ≡ LinkComesUp now iface
-IsAs (Reconfigure router now c) h = ⊥
+-- it is something, from whatever addresses
+pub something : (address : Sent → ℕ) (node : Node) (sent : List Sent) (e : Event) → IsPlaced node sent e → (h : Happening) × IsFor address sent e h
+something address node sent (Deliver datagram router iface now) at = elim (slice_get_cases sent datagram).1 [
+  | inl found ↦ (Arrives (arrival_from (address found.0) found.0 iface now), (found.0, found.2, refl))
+  | inr past ↦ absurd (omega (arith, past.0, at.0))
+]
+something address node sent (Stranger router x) at = (Arrives x, refl)
+something address node sent (Tick router now word) at = (Ticks now word, refl)
+something address node sent (Restart router now) at = (Restarts now, refl)
+something address node sent (Shutdown router now) at = (ShutsDown now, refl)
+something address node sent (LinkDown router now iface) at = (LinkGoesDown now iface, refl)
+something address node sent (LinkUp router now iface) at = (LinkComesUp now iface, refl)
+something address node sent (Reconfigure router now c) at = (Reconfigures now c, refl)
 
-module _ (stations : List StationValue) (sent : List Sent) (reconfigurations : List (ℕ × Change)) where
-  -- its router is there
-  pub as_within : (e : Event) (h : Happening) → IsAs e h → event_fault (lab_of stations sent reconfigurations) e ≡ None → router_of e < length stations
-  as_within (Deliver datagram router iface now) h is none = absurd is
-  as_within (Stranger router x) h is none = stranger_within stations sent router x none
-  as_within (Tick router now word) h is none = router_within stations router none
-  as_within (Restart router now) h is none = router_within stations router none
-  as_within (Shutdown router now) h is none = router_within stations router none
-  as_within (LinkDown router now iface) h is none = interface_router_within stations router iface none
-  as_within (LinkUp router now iface) h is none = interface_router_within stations router iface none
-  as_within (Reconfigure router now c) h is none = absurd is
+-- only the address of the datagram of a delivery matters
+pub from_there : (address other : Sent → ℕ) (sent : List Sent) (e : Event) (h : Happening)
+    → ((datagram router iface now : ℕ) (d : Sent) → e ≡ Deliver datagram router iface now → slice_get sent datagram ≡ Some d → address d ≡ other d) → IsFor address sent e h → IsFor other sent e h
+from_there address other sent (Deliver datagram router iface now) h same is =
+    (is.0, is.1, is.2 ∙ ap (λ (a : ℕ). Arrives (arrival_from a is.0 iface now)) (same datagram router iface now is.0 refl is.1))
+from_there address other sent (Stranger router x) h same is = is
+from_there address other sent (Tick router now word) h same is = is
+from_there address other sent (Restart router now) h same is = is
+from_there address other sent (Shutdown router now) h same is = is
+from_there address other sent (LinkDown router now iface) h same is = is
+from_there address other sent (LinkUp router now iface) h same is = is
+from_there address other sent (Reconfigure router now c) h same is = is
 
-  -- and so is its interface
-  pub as_placed : (e : Event) (h : Happening) → IsAs e h → event_fault (lab_of stations sent reconfigurations) e ≡ None → (s : StationValue) → slice_get stations (router_of e) ≡ Some s → IsPlaced s.node h
-  as_placed (Deliver datagram router iface now) h is none s here = absurd is
-  as_placed (Stranger router x) h is none s here =
-      let lawful = stranger stations sent router x none in
-      subst (IsPlaced s.node) (sym is) (interface_within stations router x.iface lawful.interface s lawful.interface_is here)
-  as_placed (Tick router now word) h is none s here = subst (IsPlaced s.node) (sym is) tt
-  as_placed (Restart router now) h is none s here = subst (IsPlaced s.node) (sym is) tt
-  as_placed (Shutdown router now) h is none s here = subst (IsPlaced s.node) (sym is) tt
-  as_placed (LinkDown router now iface) h is none s here = subst (IsPlaced s.node) (sym is) tt
-  as_placed (LinkUp router now iface) h is none s here = subst (IsPlaced s.node) (sym is) tt
-  as_placed (Reconfigure router now c) h is none s here = absurd is
+-- the changes that it adds
+pub changes_for : (address : Sent → ℕ) (sent : List Sent) (e : Event) (h : Happening) → IsFor address sent e h → reconfigurations_of (router_of e) h ≡ reconfigurations_in (e ∷ [])
+changes_for address sent (Deliver datagram router iface now) h is = ap (reconfigurations_of router) is.2
+changes_for address sent (Stranger router x) h is = ap (reconfigurations_of router) is
+changes_for address sent (Tick router now word) h is = ap (reconfigurations_of router) is
+changes_for address sent (Restart router now) h is = ap (reconfigurations_of router) is
+changes_for address sent (Shutdown router now) h is = ap (reconfigurations_of router) is
+changes_for address sent (LinkDown router now iface) h is = ap (reconfigurations_of router) is
+changes_for address sent (LinkUp router now iface) h is = ap (reconfigurations_of router) is
+changes_for address sent (Reconfigure router now c) h is = ap (reconfigurations_of router) is
 
-  -- with it the event happens
-  pub as_moves : (e : Event) (h : Happening) (answer : Answer) (stations' : List StationValue) → IsAs e h → event_fault (lab_of stations sent reconfigurations) e ≡ None
-      → IsMoveAt stations (router_of e) h answer stations' → MoveStations stations sent reconfigurations e answer stations'
-  as_moves (Deliver datagram router iface now) h answer stations' is none m = absurd is
-  as_moves (Stranger router x) h answer stations' is none m = intruded stations stations' sent router x answer none (subst (λ k. IsMoveAt stations router k answer stations') is m) reconfigurations
-  as_moves (Tick router now word) h answer stations' is none m =
-      let n = subst (λ k. IsMoveAt stations router k answer stations') is m in
-      record { happens = moved_at stations stations' router (Ticks now word) answer n sent _ reconfigurations _ refl refl; network = kept_at stations stations' router (Ticks now word) answer n }
-  as_moves (Restart router now) h answer stations' is none m =
-      let n = subst (λ k. IsMoveAt stations router k answer stations') is m in
-      record { happens = moved_at stations stations' router (Restarts now) answer n sent _ reconfigurations _ refl refl; network = kept_at stations stations' router (Restarts now) answer n }
-  as_moves (Shutdown router now) h answer stations' is none m =
-      let n = subst (λ k. IsMoveAt stations router k answer stations') is m in
-      record { happens = moved_at stations stations' router (ShutsDown now) answer n sent _ reconfigurations _ refl refl; network = kept_at stations stations' router (ShutsDown now) answer n }
-  as_moves (LinkDown router now iface) h answer stations' is none m =
-      let n = subst (λ k. IsMoveAt stations router k answer stations') is m in
-      record { happens = moved_at stations stations' router (LinkGoesDown now iface) answer n sent _ reconfigurations _ refl refl; network = kept_at stations stations' router (LinkGoesDown now iface) answer n }
-  as_moves (LinkUp router now iface) h answer stations' is none m =
-      let n = subst (λ k. IsMoveAt stations router k answer stations') is m in
-      record { happens = moved_at stations stations' router (LinkComesUp now iface) answer n sent _ reconfigurations _ refl refl; network = kept_at stations stations' router (LinkComesUp now iface) answer n }
-  as_moves (Reconfigure router now c) h answer stations' is none m = absurd is
+-- a move by one name is a move by another
+unfoldable moved_as : (w w' : World) (router : ℕ) (h h' : Happening) (answer : Answer) → RouterMoves w router h answer w' → h ≡ h' → RouterMoves w router h' answer w'
+moved_as w w' router h h' answer m is =
+    record {
+      old = m.old;
+      new = m.new;
+      old_is = m.old_is;
+      moves = subst (λ k. Moves m.old k answer m.new) is m.moves;
+      states = m.states;
+      sent = m.sent;
+      reconfigurations = m.reconfigurations ∙ ap (λ k. w.reconfigurations ++ reconfigurations_of router k) is;
+    }
 
--- and no change is done
-pub as_unchanged : (e : Event) (h : Happening) (cs : List (ℕ × Change)) → IsAs e h → cs ≡ cs ++ reconfigurations_in (e ∷ [])
-as_unchanged (Deliver datagram router iface now) h cs is = absurd is
-as_unchanged (Stranger router x) h cs is = sym (append-nil cs)
-as_unchanged (Tick router now word) h cs is = sym (append-nil cs)
-as_unchanged (Restart router now) h cs is = sym (append-nil cs)
-as_unchanged (Shutdown router now) h cs is = sym (append-nil cs)
-as_unchanged (LinkDown router now iface) h cs is = sym (append-nil cs)
-as_unchanged (LinkUp router now iface) h cs is = sym (append-nil cs)
-as_unchanged (Reconfigure router now c) h cs is = absurd is
+-- ---- a station moves for an event
+
+module _ (stations : List StationValue) (sent : List Sent) (reconfigurations : List (ℕ × Change)) (e : Event) (r : ℕ) (is : r ≡ router_of e) (placed : IsPlacedIn (lab_of stations sent reconfigurations) e) where
+  -- it stands at its place
+  pub station_at : (s : StationValue) → s ≡ get_or stations r s → slice_get stations r ≡ Some s
+  station_at s at =
+      let there = slice_get_within (network_of stations) (router_of e) placed.0 placed.1 in
+      let within : r < length stations = omega (arith, there, is, length-map stations (λ (t : StationValue). t.node)) in
+      slice_get-get_or stations r s within ∙ ap Some (sym at)
+
+  module _ (old : StationValue) (here : slice_get stations r ≡ Some old) where
+    pub state_at : slice_get (map (λ (s : StationValue). s.state) stations) (router_of e) ≡ Some old.state
+    state_at =
+        subst (λ (n : ℕ). slice_get (map (λ (s : StationValue). s.state) stations) n ≡ Some old.state) is
+        (slice_get-map (λ (s : StationValue). s.state) stations r ∙ ap (option_map (λ (s : StationValue). s.state)) here)
+
+    pub acts : (new : StationValue) (source : ℕ) (answer given : Answer) (sent' : List Sent) (reconfigurations' : List (ℕ × Change)) → new.node ≡ old.node → length old.state.config.interfaces ≡ length old.node.interfaces
+        → ((datagram router iface now : ℕ) (d : Sent) → e ≡ Deliver datagram router iface now → slice_get sent datagram ≡ Some d → source ≡ address_at (network_of stations) d.router d.iface)
+        → ((h : Happening) → IsFor (λ _. source) sent e h → Moves old.state h answer new.state)
+        → sent' ≡ sent ++ map (sent_by r) answer.sends → reconfigurations' ≡ reconfigurations ++ reconfigurations_in (e ∷ []) → given ≡ record answer { sends = [] }
+        → Acts (lab_of stations sent reconfigurations) e given (world_of (slice_set stations r new) sent' reconfigurations')
+    acts new source answer given sent' reconfigurations' node lawful same moves added done given_is =
+        let x = something (λ _. source) placed.0 sent e placed.2 in
+        record {
+          happening = x.0;
+          is_for = from_there (λ _. source) (λ d. address_at (network_of stations) d.router d.iface) sent e x.0 same x.1;
+          answer = answer;
+          moves = record {
+            old = old.state;
+            new = new.state;
+            old_is = state_at;
+            moves = moves x.0 x.1;
+            states = map-slice_set (λ (s : StationValue). s.state) stations r new ∙ ap (λ (n : ℕ). slice_set (map (λ (s : StationValue). s.state) stations) n new.state) is;
+            sent = added ∙ ap (λ (n : ℕ). sent ++ map (sent_by n) answer.sends) is;
+            reconfigurations = done ∙ ap (λ (cs : List (ℕ × Change)). reconfigurations ++ cs) (sym (changes_for (λ _. source) sent e x.0 x.1));
+          };
+          given_is = given_is;
+          lawful = λ n at.
+              let own = subst (λ (k : ℕ). slice_get (network_of stations) k ≡ Some old.node) is
+              (slice_get-map (λ (s : StationValue). s.node) stations r ∙ ap (option_map (λ (s : StationValue). s.node)) here) in
+              lawful ∙ ap (λ (m : Node). length m.interfaces) (Some-same old.node n (sym own ∙ at));
+        }
+
+-- the datagram that a delivery brings, and no other event does
+pub same_source : (sent : List Sent) (stations : List StationValue) (e : Event) (number router iface now source : ℕ) (x : Sent) → e ≡ Deliver number router iface now → x ≡ get_or sent number x
+    → source ≡ address_at (network_of stations) x.router x.iface
+    → (datagram router' iface' now' : ℕ) (d : Sent) → e ≡ Deliver datagram router' iface' now' → slice_get sent datagram ≡ Some d → source ≡ address_at (network_of stations) d.router d.iface
+same_source sent stations e number router iface now source x is at from datagram router' iface' now' d also there =
+    let numbers : number ≡ datagram = number_of (sym is ∙ also) in
+    let one : x ≡ d = at ∙ get_or_from_slice_get sent number d x (subst (λ (n : ℕ). slice_get sent n ≡ Some d) (sym numbers) there) in
+    from ∙ ap (λ (y : Sent). address_at (network_of stations) y.router y.iface) one
+  where
+    number_of : Deliver number router iface now ≡ Deliver datagram router' iface' now' → number ≡ datagram
+    number_of e = cc
+
+pub no_source : (x : coded.Event) → ((datagram router iface : ℕ) (now : ℕ) → x ≡ variants.Deliver datagram router iface now → ⊥) → (datagram router iface now : ℕ) → event_of x ≡ Deliver datagram router iface now → ⊥
+no_source (variants.Deliver d r i n) never datagram router iface now is = never d r i n refl
+no_source (variants.Stranger r x) never datagram router iface now is = cc
+no_source (variants.Tick r n w) never datagram router iface now is = cc
+no_source (variants.Restart r n) never datagram router iface now is = cc
+no_source (variants.Shutdown r n) never datagram router iface now is = cc
+no_source (variants.LinkDown r n i) never datagram router iface now is = cc
+no_source (variants.LinkUp r n i) never datagram router iface now is = cc
+no_source (variants.Reconfigure r n c) never datagram router iface now is = cc
+
+-- nor does another event change a configuration
+pub no_change : (x : coded.Event) (cs : List (ℕ × Change)) → ((router now : ℕ) (c : Change) → x ≡ variants.Reconfigure router now c → ⊥) → cs ≡ cs ++ reconfigurations_in (event_of x ∷ [])
+no_change (variants.Deliver d r i n) cs never = sym (append-nil cs)
+no_change (variants.Stranger r x) cs never = sym (append-nil cs)
+no_change (variants.Tick r n w) cs never = sym (append-nil cs)
+no_change (variants.Restart r n) cs never = sym (append-nil cs)
+no_change (variants.Shutdown r n) cs never = sym (append-nil cs)
+no_change (variants.LinkDown r n i) cs never = sym (append-nil cs)
+no_change (variants.LinkUp r n i) cs never = sym (append-nil cs)
+no_change (variants.Reconfigure r n c) cs never = absurd (never r n c refl)
+
+-- ---- the router has moved
+
+module _ (lab : LabValue) (given : Answer) (w : World) where
+  pub happened : (e : Event) → event_fault lab e ≡ None → (a : Acts lab e given w) → Happens lab.network lab.world e a.answer w
+  unfolding moved_as
+  happened (Deliver datagram router iface now) none a =
+      record {
+        sent = a.is_for.0;
+        sent_is = a.is_for.1;
+        linked = linked lab datagram router iface now a.is_for.0 none a.is_for.1;
+        moves = moved_as lab.world w router a.happening _ a.answer a.moves a.is_for.2;
+      }
+  happened (Stranger router x) none a =
+      let passes = each_passes (event_reasons lab (Stranger router x)) none in
+      record {
+        moves = moved_as lab.world w router a.happening _ a.answer a.moves a.is_for;
+        known = known lab router x a.moves.old passes.1.0 a.lawful;
+        unheard = sym (ap (λ (o : Option State). option_map_or (λ t. is_heard t x) o false) a.moves.old_is) ∙ passes.1.1.0;
+      }
+  happened (Tick router now word) none a = moved_as lab.world w router a.happening _ a.answer a.moves a.is_for
+  happened (Restart router now) none a = moved_as lab.world w router a.happening _ a.answer a.moves a.is_for
+  happened (Shutdown router now) none a = moved_as lab.world w router a.happening _ a.answer a.moves a.is_for
+  happened (LinkDown router now iface) none a = moved_as lab.world w router a.happening _ a.answer a.moves a.is_for
+  happened (LinkUp router now iface) none a = moved_as lab.world w router a.happening _ a.answer a.moves a.is_for
+  happened (Reconfigure router now c) none a = moved_as lab.world w router a.happening _ a.answer a.moves a.is_for
+
+  pub lied : (router : ℕ) (x : Received) → lie_fault lab router x ≡ None → Acts lab (Stranger router x) given w → LiesGiving lab router x given w
+  unfolding moved_as
+  lied router x none a =
+      let passes = each_passes (lie_reasons lab router x) none in (
+        a.answer,
+        record {
+          moves = moved_as lab.world w router a.happening _ a.answer a.moves a.is_for;
+          known = known lab router x a.moves.old passes.1.0 a.lawful;
+          heard = sym (ap (λ (o : Option State). option_map_or (λ t. is_heard t x) o false) a.moves.old_is) ∙ heard_if (is_heard_at lab.world router x) passes.1.1.0;
+        },
+        a.given_is,
+      )
+
+-- a liar's arrival is placed
+pub lie_placed : (lab : LabValue) (router : ℕ) (x : Received) → lie_fault lab router x ≡ None → IsPlacedIn lab (Stranger router x)
+lie_placed lab router x none = interface_there lab.network router x.iface (each_passes (lie_reasons lab router x) none).1.0
 
 -- ---- changes of the configuration
-
--- the router of a change
-pub named_within : (stations : List StationValue) (router : ℕ) (c : Change) → first_reason (named_reasons (network_of stations) router c) ≡ None → router < length stations
-named_within stations router (Cost iface cost) none =
-    let i = some_of (interface_at (network_of stations) router iface) (each_passes (named_reasons (network_of stations) router (Cost iface cost)) none).1.0 in
-    within stations router iface i.0 i.1
-named_within stations router (Own p tag) none = router_within stations router none
-named_within stations router (Disown p) none = router_within stations router none
-
--- and its interface
-pub named_placed : (stations : List StationValue) (router : ℕ) (c : Change) (s : StationValue) → first_reason (named_reasons (network_of stations) router c) ≡ None
-    → slice_get stations router ≡ Some s → NamesInterface (config_of s.node) c
-named_placed stations router (Cost iface cost) s none here =
-    let i = some_of (interface_at (network_of stations) router iface) (each_passes (named_reasons (network_of stations) router (Cost iface cost)) none).1.0 in
-    subst (λ (n : ℕ). iface < n) (sym (length-map s.node.interfaces (λ (i : NetInterface). i.interface))) (interface_within stations router iface i.0 s i.1 here)
-named_placed stations router (Own p tag) s none here = tt
-named_placed stations router (Disown p) s none here = tt
-
--- configurations of as many interfaces have the same places
-pub placed_alike : (a b : Config) (c : Change) → length a.interfaces ≡ length b.interfaces → NamesInterface a c → NamesInterface b c
-placed_alike a b (Cost iface cost) same there = subst (λ (n : ℕ). iface < n) same there
-placed_alike a b (Own p tag) same there = tt
-placed_alike a b (Disown p) same there = tt
 
 -- the tests of the router itself
 asked : (lab : LabValue) (router now : ℕ) (c : Change) (s : State) → slice_get lab.world.states router ≡ Some s → event_fault lab (Reconfigure router now c) ≡ None
@@ -398,14 +381,29 @@ happened_passes lab (Shutdown router now) answer w' none happens = first_reason-
 happened_passes lab (LinkDown router now on) answer w' none happens = first_reason-append (event_reasons lab (LinkDown router now on)) [] none
 happened_passes lab (LinkUp router now on) answer w' none happens = first_reason-append (event_reasons lab (LinkUp router now on)) [] none
 
-pub reconfigured : (stations : List StationValue) (router now : ℕ) (c : Change) (old new : StationValue) (answer : Answer)
-    → slice_get stations router ≡ Some old → new.node ≡ old.node → Moves old.state (Reconfigures now c) answer new.state
-    → (sent : List Sent) (reconfigurations : List (ℕ × Change)) → MoveStations stations sent reconfigurations (Reconfigure router now c) answer (slice_set stations router new)
-reconfigured stations router now c old new answer old_is same moves sent reconfigurations =
+-- why the router refuses it is why the event is refused
+pub own_refused : (lab : LabValue) (e : Event) (why : LabError) → event_fault lab e ≡ None → IsOwnRefusal lab.world e why → IsRefusal lab e why
+own_refused lab e why none (inl memory) = inr (none, memory)
+own_refused lab (Reconfigure router now c) why none (inr own) = subst (IsRefusal lab (Reconfigure router now c)) (sym own.2) (change_refused lab router now c own.0 _ own.1 none refl)
+own_refused lab (Deliver datagram router iface now) why none (inr own) = inr (none, own.2)
+own_refused lab (Stranger router x) why none (inr own) = inr (none, own.2)
+own_refused lab (Tick router now word) why none (inr own) = inr (none, own.2)
+own_refused lab (Restart router now) why none (inr own) = inr (none, own.2)
+own_refused lab (Shutdown router now) why none (inr own) = inr (none, own.2)
+own_refused lab (LinkDown router now iface) why none (inr own) = inr (none, own.2)
+own_refused lab (LinkUp router now iface) why none (inr own) = inr (none, own.2)
+
+-- so the step ends, once nothing refuses the event before
+pub step_ends : (lab lab' : LabValue) (e : Event) (r : Result Answer LabError) → event_fault lab e ≡ None → IfOk r (λ given. Acts lab e given lab'.world) → IfErr r (IsOwnRefusal lab.world e) → OnErr r (lab' ≡ lab)
+    → StepEnds lab e (result_err r) lab'
+step_ends lab lab' e (Ok given) none acts refused same =
     record {
-      happens = router_moves stations router old new old_is same sent reconfigurations (Reconfigures now c) answer moves;
-      network = network_kept stations router old new old_is same;
+      reconfigurations = acts.moves.reconfigurations ∙ ap (λ cs. lab.world.reconfigurations ++ cs) (changes_for _ lab.world.sent e acts.happening acts.is_for);
+      passes = happened_passes lab e acts.answer lab'.world none (happened lab given lab'.world e none acts);
+      refused = tt;
+      unchanged = tt;
     }
+step_ends lab lab' e (Err why) none acts refused same = record { reconfigurations = tt; passes = tt; refused = own_refused lab e why none refused; unchanged = same }
 
 -- a step that is refused leaves all as it was
 pub step_refused : (lab lab' : LabValue) (e : Event) (r : Result Answer LabError) (why : LabError) → IsErrAnd r (λ x. x ≡ why) → IsRefusal lab e why → lab' ≡ lab → StepEnds lab e (result_err r) lab'

@@ -1,15 +1,16 @@
 -- A lab: a lawful network that has run since a cold start, and what then holds.
-use Rattle.std.specs.Prelude.{◌≡◌, ℕ, ◌<◌, ◌≤◌, ◌==◌, nat_le, not, Bool, false, List, [], ◌∷◌, ◌++◌, map, ◌⊎◌, length, Option, Some, None, IfNone, IfSome, is_none, option_map, option_and_then, slice_get, codes}
-use Rattle.ripng_world.specs.Below.{AllByRecursion, option_map_or, Prefix6, first_reason, RouteValue, infinity, State, Received, reconfigure_reasons, Answer, Change, Cost, Own, Disown, ReconfigureRefused, LabError, NoSuchRouter, NoSuchInterface, NoSuchDatagram, OtherLink, NotAStranger, OutOfMemory, NotALiar, Sent}
+use Rattle.std.specs.Prelude.{◌≡◌, ℕ, ◌<◌, ◌≤◌, ◌==◌, nat_le, not, Bool, false, List, [], ◌∷◌, ◌++◌, map, ◌⊎◌, length, Option, Some, None, IfNone, IfSome, is_none, option_map, option_and_then, slice_get, unwrap_or, codes}
+use Rattle.ripng_world.specs.Below.{AllByRecursion, option_map_or, Prefix6, first_reason, RouteValue, infinity, State, Happening, Received, reconfigure_reasons, reconfigure_fault, Answer, Change, Cost, Own, Disown, ReconfigureRefused, LabError, NoSuchRouter, NoSuchInterface, NoSuchDatagram, OtherLink, NotAStranger, OutOfMemory, NotALiar, Sent}
 use Rattle.std.specs.FinMap as map_of
 use Rattle.router_core.specs.declared.reconfiguring.ReconfigureRefused.TheVariants as refused
-use Rattle.ripng_world.specs.Network.{Network, IsNetwork, interface_at}
-use Rattle.ripng_world.specs.Stations.{StationValue, network_of, world_of}
+use Rattle.ripng_world.specs.Network.{Network, Node, IsNetwork, interface_at}
+use Rattle.ripng_world.specs.Rounds.{router_of}
+use Rattle.ripng_world.specs.Stations.{StationValue, IsFor, IsPlaced, network_of, world_of}
 use Rattle.ripng_world.specs.Walks.{IsTableBacked, IsLeast}
 use Rattle.ripng_world.specs.Past.{IsTableBackedSince, IsLeastSince}
 use Rattle.ripng_world.specs.Truth.{IsSoundDatagram}
 use Rattle.ripng_world.specs.TruthSince.{IsSoundDatagramSince}
-use Rattle.ripng_world.specs.World.{World, Event, Deliver, Stranger, Tick, Restart, Shutdown, LinkDown, LinkUp, Reconfigure, Happens, WorldRun, IsCold, is_heard, past_of, reconfigurations_in}
+use Rattle.ripng_world.specs.World.{World, Event, Deliver, Stranger, Tick, Restart, Shutdown, LinkDown, LinkUp, Reconfigure, Happens, RouterMoves, WorldRun, IsCold, address_at, is_heard, past_of, reconfigurations_in}
 
 -- what callers see of a lab: the network as it started, and the world
 pub record LabValue : Type 0 where
@@ -165,6 +166,28 @@ step_fault lab e = first_reason (event_reasons lab e ++ asked_reasons lab.world 
 -- an event is refused by the first reason that applies, or out of memory once the router is to be asked
 abbrev pub IsRefusal : LabValue → Event → LabError → Type 0
 IsRefusal lab e why = (step_fault lab e ≡ Some why) ⊎ ((event_fault lab e ≡ None) × (why ≡ OutOfMemory))
+
+-- the router of the event is there, and so is what the event names
+abbrev pub IsPlacedIn : LabValue → Event → Type 0
+IsPlacedIn lab e = (node : Node) × (slice_get lab.network (router_of e) ≡ Some node) × IsPlaced node lab.world.sent e
+
+-- its router moves as the event has it. The answer that is given lacks its sends
+pub record Acts (lab : LabValue) (e : Event) (given : Answer) (w : World) : Type 0 where
+  pub happening : Happening
+  pub is_for : IsFor (λ d. address_at lab.network d.router d.iface) lab.world.sent e happening
+  pub answer : Answer
+  pub moves : RouterMoves lab.world (router_of e) happening answer w
+  pub given_is : given ≡ record answer { sends = [] }
+  pub lawful : (node : Node) → slice_get lab.network (router_of e) ≡ Some node → length moves.old.config.interfaces ≡ length node.interfaces
+
+-- why a router in this state refuses the event, once it is asked
+abbrev pub own_refusal : State → Event → LabError
+own_refusal s (Reconfigure router now c) = refusal_of (unwrap_or (reconfigure_fault s.config s.table c) refused.OutOfMemory)
+own_refusal s _ = OutOfMemory
+
+-- out of memory, or why its router refuses the event
+abbrev pub IsOwnRefusal : World → Event → LabError → Type 0
+IsOwnRefusal w e why = (why ≡ OutOfMemory) ⊎ ((s : State) × (slice_get w.states (router_of e) ≡ Some s) × (why ≡ own_refusal s e))
 
 -- how a step ends, given why it was refused, if it was: the change of the event is added to those done, or nothing is changed
 pub record StepEnds (lab : LabValue) (e : Event) (refusal : Option LabError) (lab' : LabValue) : Type 0 where

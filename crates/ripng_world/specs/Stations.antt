@@ -1,11 +1,10 @@
 -- Routers of a network at their places.
-use Rattle.std.specs.Prelude.{◌≡◌, ℕ, ◌<◌, ◌*◌, ◌/◌, max, ⊤, List, [], ◌∷◌, ◌++◌, map, length, Some, slice_get, slice_set}
-use Rattle.ripng_world.specs.Below.{coded_table, State, Happening, Arrives, Ticks, Restarts, Reconfigures, ShutsDown, LinkGoesDown, LinkComesUp, Moves, Answer, Change, Sent}
+use Rattle.std.specs.Prelude.{◌≡◌, ℕ, ◌<◌, ◌*◌, ◌/◌, max, ⊤, List, map, length, Some, slice_get}
+use Rattle.ripng_world.specs.Below.{coded_table, State, Happening, Arrives, Ticks, Restarts, Reconfigures, ShutsDown, LinkGoesDown, LinkComesUp, NamesInterface, Change, Sent}
 use Rattle.std.specs.FinMap as map_of
 use Rattle.std.specs.Coded.{codes}
-use Rattle.ripng_world.specs.Network.{Network, Node}
-use Rattle.ripng_world.specs.Rounds.{router_of}
-use Rattle.ripng_world.specs.World.{World, Event, Happens, reconfigurations_in, sent_by}
+use Rattle.ripng_world.specs.Network.{Network, Node, config_of}
+use Rattle.ripng_world.specs.World.{World, Event, Deliver, Stranger, Tick, Restart, Shutdown, LinkDown, LinkUp, Reconfigure, arrival_from}
 
 -- a router that runs, and what it was configured to be when it started
 pub record StationValue : Type 0 where
@@ -23,10 +22,23 @@ network_of stations = map (λ s. s.node) stations
 abbrev pub world_of : List StationValue → List Sent → List (ℕ × Change) → World
 world_of stations sent reconfigurations = record { states = map (λ s. s.state) stations; sent = sent; reconfigurations = reconfigurations }
 
--- an arrival comes to an interface of the router
-abbrev pub IsPlaced : Node → Happening → Type 0
-IsPlaced node (Arrives x) = x.iface < length node.interfaces
-IsPlaced node _ = ⊤
+-- what the event is for its router, where datagrams come from these addresses
+abbrev pub IsFor : (Sent → ℕ) → List Sent → Event → Happening → Type 0
+IsFor address sent (Deliver datagram router iface now) h = (d : Sent) × (slice_get sent datagram ≡ Some d) × (h ≡ Arrives (arrival_from (address d) d iface now))
+IsFor address sent (Stranger router x) h = h ≡ Arrives x
+IsFor address sent (Tick router now word) h = h ≡ Ticks now word
+IsFor address sent (Restart router now) h = h ≡ Restarts now
+IsFor address sent (Shutdown router now) h = h ≡ ShutsDown now
+IsFor address sent (LinkDown router now iface) h = h ≡ LinkGoesDown now iface
+IsFor address sent (LinkUp router now iface) h = h ≡ LinkComesUp now iface
+IsFor address sent (Reconfigure router now c) h = h ≡ Reconfigures now c
+
+-- the datagram and the interface that it names are there
+abbrev pub IsPlaced : Node → List Sent → Event → Type 0
+IsPlaced node sent (Deliver datagram router iface now) = (datagram < length sent) × (iface < length node.interfaces)
+IsPlaced node sent (Stranger router x) = x.iface < length node.interfaces
+IsPlaced node sent (Reconfigure router now c) = NamesInterface (config_of node) c
+IsPlaced node sent _ = ⊤
 
 -- no answer to it has more datagrams
 abbrev pub most_sends : State → Happening → ℕ
@@ -37,20 +49,3 @@ most_sends s (Reconfigures now c) = 0
 most_sends s (ShutsDown now) = map_of.len s.table * length s.config.interfaces
 most_sends s (LinkGoesDown now iface) = 0
 most_sends s (LinkComesUp now iface) = 1
-
--- the router at a place moves, and all others stay
-pub record IsMoveAt (stations : List StationValue) (router : ℕ) (happening : Happening) (answer : Answer) (stations' : List StationValue) : Type 0 where
-  pub old : StationValue
-  pub new : StationValue
-  pub old_is : slice_get stations router ≡ Some old
-  pub lawful : length old.state.config.interfaces ≡ length old.node.interfaces
-  pub moves : Moves old.state happening answer new.state
-  pub node : new.node ≡ old.node
-  pub stations_are : stations' ≡ slice_set stations router new
-
--- with the sends of its answer added to what was sent, and its change to the changes done, the event happens; the network
--- as it started stays
-pub record MoveStations (stations : List StationValue) (sent : List Sent) (reconfigurations : List (ℕ × Change)) (e : Event) (answer : Answer) (stations' : List StationValue) : Type 0 where
-  pub happens : Happens (network_of stations) (world_of stations sent reconfigurations) e answer
-      (world_of stations' (sent ++ map (sent_by (router_of e)) answer.sends) (reconfigurations ++ reconfigurations_in (e ∷ [])))
-  pub network : network_of stations' ≡ network_of stations

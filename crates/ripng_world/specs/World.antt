@@ -53,18 +53,22 @@ is_to_group (Peer addr port) = false
 abbrev pub address_at : Network → ℕ → ℕ → ℕ
 address_at net router iface = unwrap_or (option_map (λ i. i.interface.addr) (interface_at net router iface)) 0
 
--- a datagram of the network as it comes to an interface of its link
-abbrev pub arrival_of : Network → Sent → ℕ → ℕ → Received
-arrival_of net d iface now =
+-- a datagram as it comes to an interface, from an address
+abbrev pub arrival_from : ℕ → Sent → ℕ → ℕ → Received
+arrival_from source d iface now =
     record {
       now = now;
       iface = iface;
-      source = address_at net d.router d.iface;
+      source = source;
       source_port = ripng_port;
       hop_limit = 255;
       to_group = is_to_group d.to;
       bytes = d.bytes;
     }
+
+-- a datagram of the network as it comes to an interface of its link
+abbrev pub arrival_of : Network → Sent → ℕ → ℕ → Received
+arrival_of net d iface now = arrival_from (address_at net d.router d.iface) d iface now
 
 -- any datagram ever sent, to any interface of the link that it was sent on
 pub record Delivers (net : Network) (w : World) (datagram router iface now : ℕ) (answer : Answer) (w' : World) : Type 0 where

@@ -1,21 +1,39 @@
 //! What may happen in a network, what its routers send, and why an event is refused.
 
 ghost use Rattle.std.specs.Prelude.{◌≡◌};
-ghost use Rattle.ripng_world.specs.Common.{event_of, lab_error_name, refusal_of, router_of, OutOfMemory};
+ghost use Rattle.ripng_world.specs.Common.{arrival_from, event_of, lab_error_name, refusal_of, router_of, OutOfMemory};
 
+use prefix6::Addr6;
 use route_table::Moment;
-use router_core::{Arrival, Change, Destination, Listed, ReconfigureRefused};
+use router_core::{
+    Arrival, Change, Destination, Listed, MAX_HOP_LIMIT, RIPNG_PORT, ReconfigureRefused,
+};
 use std::alloc::AllocError;
 
-/// A datagram that was sent.
+/// A datagram that was sent, by a router and its interface with these numbers.
 #[derive(Drop)]
 pub struct Sent {
-    /// The number of the router that sent it.
     pub router: usize,
-    /// The number of that router's interface.
     pub iface: usize,
     pub to: Destination,
     pub bytes: Listed<u8>,
+}
+
+impl Sent {
+    /// The datagram as it comes to an interface, from an address.
+    pub fn arrival(&self, source: Addr6, iface: usize, now: Moment) -> Arrival<'_>
+        ensures { result ≡ arrival_from source self.now iface now }
+    {
+        Arrival {
+            now,
+            iface,
+            source,
+            source_port: RIPNG_PORT,
+            hop_limit: MAX_HOP_LIMIT,
+            to_group: matches!(self.to, Destination::Group),
+            bytes: self.bytes.as_slice(),
+        }
+    }
 }
 
 /// What may happen in a network. Its routers, the interfaces of each and all datagrams ever sent are numbered from 0. Each router
@@ -69,20 +87,6 @@ pub enum Event<'a> {
         now: Moment,
         change: Change,
     },
-}
-
-/// What an event is for its router, unless it changes the router's configuration.
-#[derive(Drop)]
-pub enum Happening<'a> {
-    Arrives(Arrival<'a>),
-    /// At a moment, with a random number.
-    Ticks(Moment, u32),
-    Restarts(Moment),
-    ShutsDown(Moment),
-    /// At a moment, at an interface.
-    LinkGoesDown(Moment, usize),
-    /// At a moment, at an interface.
-    LinkComesUp(Moment, usize),
 }
 
 /// Why an event is refused: the first reason to refuse it, in this order.

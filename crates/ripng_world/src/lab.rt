@@ -8,10 +8,9 @@ mod delivering;
 mod making;
 
 use crate::event::{Event, LabError, Sent};
-use crate::moving::file;
 use crate::network::NetConfig;
 use crate::running::Running;
-use crate::station::Station;
+use crate::station::{Station, file};
 use crate::watch::{Observer, Stopped, Unwatched};
 pub use delivering::wants_memory;
 pub use making::{Round, RoundsRefused};

@@ -51,11 +51,9 @@ pub enum NetRefused {
     TooManyRouters,
     /// Two interfaces of the network have one address.
     AddressSharedInNetwork,
-    /// The configuration of a router is refused.
+    /// The configuration of a router is refused: the first such router, numbered from 0, and why.
     BadRouter {
-        /// The number of the first such router, from 0.
         router: usize,
-        /// Why.
         refusal: ConfigRefused,
     },
     /// Memory was refused.

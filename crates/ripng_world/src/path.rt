@@ -45,11 +45,8 @@ pub enum PathEnd {
     NoRoute,
     /// That router forwards to an address that no other router of the link has: nobody takes the packets.
     NextHopIsNobodys,
-    /// That router has handed the packets on before: they go round from it until their hop limit is used up.
-    Loops {
-        /// Its number.
-        from: usize,
-    },
+    /// That router, `from`, has handed the packets on before: they go round from it until their hop limit is used up.
+    Loops { from: usize },
 }
 
 /// The way of packets for an address from a router, as the tables are.

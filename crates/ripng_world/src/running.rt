@@ -2,12 +2,12 @@
 //! router has received a forged Response: that is promised of a `Lab`, which is made of this.
 
 ghost use Rattle.std.specs.Prelude.{◌≡◌, ℕ, ◌∷◌, [], Some, IfErr, IfOk, OnErr, length, slice_get, option_copied};
-ghost use Rattle.ripng_world.specs.Common.{result_err, first_reason, event_of, event_fault, HappensGiving, StepEnds, link_at, missing_interface_reasons, missing_router_reasons, lie_fault, Deliver, Stranger, is_heard, IsLieRefusal, LiesGiving, IfRefused, WatchedInPart, failures, refusal_in, LabValue, lab_of, coded_states};
+ghost use Rattle.ripng_world.specs.Common.{result_err, first_reason, event_of, event_fault, HappensGiving, StepEnds, link_at, missing_interface_reasons, missing_router_reasons, lie_fault, Acts, IsOwnRefusal, IsPlacedIn, Deliver, Stranger, is_heard, IsLieRefusal, LiesGiving, IfRefused, WatchedInPart, failures, refusal_in, LabValue, lab_of, coded_states};
 
-use crate::event::{Event, Happening, LabError, Sent};
-use crate::moving::{act, file, happen};
-use crate::station::{Station, interface_at};
+use crate::event::{Event, LabError, Sent};
+use crate::station::{Station, file, interface_at, source_of};
 use crate::watch::{Observer, Stopped};
+use prefix6::Addr6;
 use ripng_wire::Command;
 use route_table::RouteStore;
 use router_core::{Answer, Arrival, Change, Listed, Router};
@@ -161,6 +161,32 @@ impl<S: RouteStore> Running<S> {
         }
     }
 
+    /// The router of an event moves. Room for what it sends, and for its change, is made first.
+    fn act(&mut self, event: &Event<'_>) -> Result<Answer, LabError>
+        requires { IsPlacedIn self.old (event_of event.now) }
+        ensures acts { IfOk result (λ answer. Acts self.old (event_of event.entry.now) answer self.new.world) }
+        ensures network { self.new.network ≡ self.old.network }
+        ensures refused { IfErr result (IsOwnRefusal self.old.world (event_of event.entry.now)) }
+        ensures err { OnErr result (self.new ≡ self.old) }
+    {
+        let router = event.router();
+        let source = match event {
+            Event::Deliver { datagram, .. } => source_of(&self.stations, &self.sent[*datagram]),
+            _ => Addr6::from_bits(0),
+        };
+        let station = &mut self.stations[router];
+        let room = station.room(event, &self.sent);
+        self.sent.reserve(room)?;
+        self.reconfigurations.reserve(1)?;
+        let answer = station.happen(event, &self.sent, source)?;
+        file(&mut self.sent, router, answer.sends);
+        if let Event::Reconfigure { change, .. } = event {
+            self.reconfigurations.push_reserved((router, *change));
+        }
+        let sends = Listed::from_vec(Vec::new(self.alloc));
+        Ok(Answer { sends, ..answer })
+    }
+
     /// An event happens: one router moves, and answers. What it sends goes to the end of `sent`, and is not in the answer.
     ///
     /// # Errors
@@ -172,15 +198,7 @@ impl<S: RouteStore> Running<S> {
         ensures ends { StepEnds self.old (event_of event.entry.now) (result_err result) self.new }
     {
         self.check(event)?;
-        let answer = happen(
-            &mut self.stations,
-            &mut self.sent,
-            &mut self.reconfigurations,
-            event,
-        )?;
-        file(&mut self.sent, event.router(), answer.sends);
-        let sends = Listed::from_vec(Vec::new(self.alloc));
-        Ok(Answer { sends, ..answer })
+        self.act(event)
     }
 
     /// As `step`, and then an observer is notified of the event with its answer.
@@ -219,10 +237,7 @@ impl<S: RouteStore> Running<S> {
         ensures err { OnErr result (self.new ≡ self.old) }
     {
         self.check_lie(router, arrival)?;
-        let arrives = Happening::Arrives(Arrival { ..*arrival });
-        let answer = act(&mut self.stations, &mut self.sent, router, arrives)?;
-        file(&mut self.sent, router, answer.sends);
-        let sends = Listed::from_vec(Vec::new(self.alloc));
-        Ok(Answer { sends, ..answer })
+        let arrival = Arrival { ..*arrival };
+        self.act(&Event::Stranger { router, arrival })
     }
 }

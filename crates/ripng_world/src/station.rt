@@ -1,13 +1,13 @@
 //! A router that runs in a network.
 
-ghost use Rattle.std.specs.Prelude.{◌≡◌, ◌≤◌, ◌/◌, [], max, IfErr, IfOk, OnErr, length, unwrap_or};
-ghost use Rattle.ripng_world.specs.Common.{Moves, Reconfigures, Starts, NamesInterface, reconfigure_fault, happening_of, config_of, interface_at, IsPlaced, most_sends, network_of, StationValue, coded_states};
-ghost use Rattle.std.specs.FinMap as map_of;
+ghost use Rattle.std.specs.Prelude.{◌≡◌, ℕ, ◌+◌, ◌≤◌, ◌++◌, IfErr, IfOk, OnErr, map, length, vec_len, vec_capacity};
+ghost use Rattle.ripng_world.specs.Common.{Happening, Moves, Starts, event_of, IsFor, address_at, config_of, interface_at, IsPlaced, most_sends, network_of, own_refusal, sent_by, Sent as SentValue, StationValue, coded_states};
 
-use crate::event::Happening;
+use crate::event::{Event, LabError, Sent};
 use crate::network::{NetInterface, NetRouter, Node};
+use prefix6::Addr6;
 use route_table::{Moment, RouteStore};
-use router_core::{Answer, Change, ReconfigureRefused, Router};
+use router_core::{Answer, Arrival, Listed, Outgoing, Router};
 use std::alloc::{AllocError, Global};
 use std::marker::Model;
 
@@ -39,6 +39,29 @@ pub fn interface_at<S: RouteStore>(
     stations.get(router)?.interfaces().get(iface).copied()
 }
 
+/// The address from which a datagram comes: that of the interface that sent it.
+pub fn source_of<S: RouteStore>(stations: &[Station<S>], datagram: &Sent) -> Addr6
+    ensures { result ≡ address_at (network_of stations.now) datagram.now.router datagram.now.iface }
+{
+    let sender = interface_at(stations, datagram.router, datagram.iface);
+    sender.map_or(Addr6::from_bits(0), |i| i.interface.addr)
+}
+
+/// What a router sent is added to all that was ever sent.
+pub fn file(sent: &mut Vec<Sent>, router: usize, sends: Listed<Outgoing>)
+    requires { vec_len sent.old + length sends ≤ vec_capacity sent.old }
+    ensures { sent.new.items ≡ sent.old.items ++ map (sent_by router) sends }
+{
+    for outgoing in sends.into_vec() {
+        sent.push_reserved(Sent {
+            router,
+            iface: outgoing.iface,
+            to: outgoing.to,
+            bytes: outgoing.bytes,
+        });
+    }
+}
+
 impl<S: RouteStore> Station<S> {
     /// The router of a network starts.
     ///
@@ -53,11 +76,9 @@ impl<S: RouteStore> Station<S> {
         ensures starts { IfOk result (λ r. Starts (config_of router) now r.1 r.0.state) }
     {
         let NetRouter { interfaces, config } = router;
-        let mut prefixes = Vec::new(alloc);
-        prefixes.extend_from_slice(config.prefixes())?;
         let node = Node {
             interfaces,
-            prefixes,
+            prefixes: Vec::from_slice(alloc, config.prefixes())?,
             quiet: config.is_quiet(),
         };
         let (router, answer) = Router::start(alloc, config, now)?;
@@ -78,63 +99,60 @@ impl<S: RouteStore> Station<S> {
         &self.node.interfaces
     }
 
-    /// The most datagrams in an answer to an arrival of that many bytes.
-    pub fn answer_room(&self, bytes: usize) -> usize
-        ensures value { result ≡ max (map_of.len self.now.state.table) (bytes / 20) }
-        ensures interfaces { length self.now.state.config.interfaces ≡ length self.now.node.interfaces }
-    {
-        self.router.routes().len().max(bytes / 20)
-    }
-
-    /// The most datagrams in an answer.
-    pub fn room(&self, happening: &Happening<'_>) -> usize
-        ensures value { result ≡ most_sends self.now.state (happening_of happening.entry.now) }
+    /// The most datagrams in an answer to an event, which may deliver one of those that were sent.
+    pub fn room(&self, event: &Event<'_>, sent: &[Sent]) -> usize
+        requires { IsPlaced self.now.node sent.now (event_of event.now) }
+        ensures value { (address : SentValue → ℕ) (h : Happening) → IsFor address sent.now (event_of event.entry.now) h → result ≡ most_sends self.now.state h }
         ensures interfaces { length self.now.state.config.interfaces ≡ length self.now.node.interfaces }
     {
         let routes = self.router.routes().len();
         let interfaces = self.router.config().interfaces().len();
-        match happening {
-            Happening::Arrives(arrival) => self.answer_room(arrival.bytes.len()),
-            Happening::Ticks(..) | Happening::ShutsDown(_) => routes * interfaces,
-            Happening::Restarts(_) => interfaces,
-            Happening::LinkGoesDown(..) => 0,
-            Happening::LinkComesUp(..) => 1,
+        match event {
+            Event::Deliver { datagram, .. } => {
+                routes.max(sent[*datagram].bytes.as_slice().len() / 20)
+            }
+            Event::Stranger { arrival, .. } => routes.max(arrival.bytes.len() / 20),
+            Event::Tick { .. } | Event::Shutdown { .. } => routes * interfaces,
+            Event::Restart { .. } => interfaces,
+            Event::LinkUp { .. } => 1,
+            Event::LinkDown { .. } | Event::Reconfigure { .. } => 0,
         }
     }
 
-    /// Something happens at the router.
+    /// An event happens at the router. A delivery brings one of the datagrams that were sent, from that address.
     ///
     /// # Errors
-    /// Out of memory; the router is then unchanged.
-    pub fn happen(&mut self, happening: Happening<'_>) -> Result<Answer, AllocError>
-        requires { IsPlaced self.old.node (happening_of happening) }
-        ensures moves { IfOk result (λ answer. Moves self.old.state (happening_of happening.entry) answer self.new.state) }
-        ensures few { IfOk result (λ answer. length answer.sends ≤ most_sends self.old.state (happening_of happening.entry)) }
+    /// Why the router refuses a change of its configuration, else out of memory; the router is then unchanged.
+    pub fn happen(
+        &mut self,
+        event: &Event<'_>,
+        sent: &[Sent],
+        source: Addr6,
+    ) -> Result<Answer, LabError>
+        requires { IsPlaced self.old.node sent.now (event_of event.now) }
+        ensures moves { IfOk result (λ answer. (h : Happening) → IsFor (λ _. source) sent.now (event_of event.entry.now) h → Moves self.old.state h answer self.new.state) }
+        ensures few { IfOk result (λ answer. (h : Happening) → IsFor (λ _. source) sent.now (event_of event.entry.now) h → length answer.sends ≤ most_sends self.old.state h) }
         ensures node { self.new.node ≡ self.old.node }
+        ensures refused { IfErr result (λ why. why ≡ own_refusal self.old.state (event_of event.entry.now)) }
         ensures err { OnErr result (self.new ≡ self.old) }
     {
-        match happening {
-            Happening::Arrives(arrival) => self.router.arrive(arrival),
-            Happening::Ticks(now, word) => self.router.tick(now, word),
-            Happening::Restarts(now) => self.router.restart(now),
-            Happening::ShutsDown(now) => self.router.shutdown(now),
-            Happening::LinkGoesDown(now, iface) => self.router.link_down(now, iface),
-            Happening::LinkComesUp(now, iface) => self.router.link_up(now, iface),
+        match event {
+            Event::Deliver {
+                datagram,
+                iface,
+                now,
+                ..
+            } => {
+                let arrival = sent[*datagram].arrival(source, *iface, *now);
+                Ok(self.router.arrive(arrival)?)
+            }
+            Event::Stranger { arrival, .. } => Ok(self.router.arrive(Arrival { ..*arrival })?),
+            Event::Tick { now, word, .. } => Ok(self.router.tick(*now, *word)?),
+            Event::Restart { now, .. } => Ok(self.router.restart(*now)?),
+            Event::Shutdown { now, .. } => Ok(self.router.shutdown(*now)?),
+            Event::LinkDown { now, iface, .. } => Ok(self.router.link_down(*now, *iface)?),
+            Event::LinkUp { now, iface, .. } => Ok(self.router.link_up(*now, *iface)?),
+            Event::Reconfigure { now, change, .. } => Ok(self.router.reconfigure(*now, *change)?),
         }
-    }
-
-    /// The configuration of the router is changed.
-    ///
-    /// # Errors
-    /// The first reason to refuse the change, else out of memory; the router is then unchanged.
-    pub fn reconfigure(&mut self, now: Moment, change: Change) -> Result<Answer, ReconfigureRefused>
-        requires { NamesInterface (config_of self.old.node) change }
-        ensures moves { IfOk result (λ answer. Moves self.old.state (Reconfigures now change) answer self.new.state) }
-        ensures silent { IfOk result (λ answer. answer.sends ≡ []) }
-        ensures node { self.new.node ≡ self.old.node }
-        ensures refused { IfErr result (λ why. why ≡ unwrap_or (reconfigure_fault self.old.state.config self.old.state.table change) ReconfigureRefused.OutOfMemory) }
-        ensures err { OnErr result (self.new ≡ self.old) }
-    {
-        self.router.reconfigure(now, change)
     }
 }

@@ -30,21 +30,13 @@ impl<'a> Model for Round<'a> {
     ghost view = { λ r. record { ticks = r.ticks.now; picks = r.picks.now; rest = r.rest } };
 }
 
-/// Why rounds stop. All earlier events are done.
+/// Why rounds stop, and in which round, numbered from 0. All earlier events are done.
 #[derive(Clone, Copy, Debug, PartialEq, Eq)]
 pub enum RoundsRefused {
     /// The regular update of a router is not due at its tick. That tick is not done.
-    NoRegularUpdate {
-        /// The number of the round, from 0.
-        round: usize,
-        /// The number of the router.
-        router: usize,
-    },
+    NoRegularUpdate { round: usize, router: usize },
     /// Memory was refused, or ran out in a router for a new route.
-    OutOfMemory {
-        /// The number of the round, from 0.
-        round: usize,
-    },
+    OutOfMemory { round: usize },
 }
 
 impl RoundsRefused {

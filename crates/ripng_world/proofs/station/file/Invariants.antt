@@ -2,7 +2,7 @@ use Rattle.std.proofs.Common.{◌≡◌, ◌≤◌, ◌+◌, ◌++◌, map, leng
 use Rattle.std.specs.Vec.{vec_capacity}
 use Rattle.std.specs.Vec.Iter.{into_iter_items}
 use Rattle.ripng_world.specs.World.{sent_by}
-use Rattle.ripng_world.proofs.moving.file.Given as goal
+use Rattle.ripng_world.proofs.station.file.Given as goal
 
 abbrev pub invariant-loop-outgoing : goal.invariant-loop-outgoing
 invariant-loop-outgoing l = record {
