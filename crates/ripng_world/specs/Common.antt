@@ -3,7 +3,7 @@ pub use Rattle.ripng_world.specs.Below.{AllByRecursion, IsDistinct, result_err, 
 pub use Rattle.ripng_world.specs.Network.{Network, HasDistinctAddresses, IsNetwork, OwnsPrefixes, config_of, interface_at}
 pub use Rattle.ripng_world.specs.Walks.{IsTableBacked, Hop, IsWalk, BeginsAs, Reaches, cost, IsLeast}
 pub use Rattle.ripng_world.specs.Past.{IsTableBackedSince, Past, ReachesSince, IsLeastSince}
-pub use Rattle.ripng_world.specs.World.{WorldRun, Tick, IsCold, reconfigurations_in, past_of, World, Event, Deliver, arrival_from, address_at, sent_by, Stranger, is_heard}
+pub use Rattle.ripng_world.specs.World.{WorldRun, Tick, IsCold, reconfigurations_in, past_of, World, Event, Deliver, Reconfigure, arrival_from, address_at, sent_by, Stranger, is_heard}
 pub use Rattle.ripng_world.specs.Rounds.{router_of, IsDueTick, Round, SynchronousRounds, AreWithinTimeout, events_of_rounds}
 pub use Rattle.ripng_world.specs.Truth.{IsNeighbor, IsSoundTable, IsSoundEntry, IsSoundDatagram}
 pub use Rattle.ripng_world.specs.TruthSince.{IsNeighborSince, IsSoundTableSince, IsSoundEntrySince, IsSoundDatagramSince}
