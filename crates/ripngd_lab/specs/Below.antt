@@ -15,6 +15,7 @@ pub use Rattle.ripng_world.specs.Lying.{Lies}
 pub use Rattle.ripng_world.specs.Rounds.{router_of}
 pub use Rattle.ripng_world.specs.Watching.{Told, telling}
 pub use Rattle.ripng_world.specs.World.{Event, Tick, Stranger, Happens, IsCold, Deliver}
+pub use Rattle.ripng_world.specs.declared.event.LabError.TheVariants.{NoSuchRouter}
 pub use Rattle.ripng_world.specs.declared.path.PathEnd.{PathEnd}
 pub use Rattle.ripng_world.specs.declared.path.PathEnd.TheVariants.{Delivered, Loops}
 pub use Rattle.ripng_world.specs.declared.event.Sent.{Sent}
@@ -27,14 +28,13 @@ pub use Rattle.ripngd_lab.specs.declared.course.Course.{Course}
 pub use Rattle.ripngd_lab.specs.declared.expecting.Expected.{Expected}
 pub use Rattle.ripngd_lab.specs.declared.expecting.Fate.{Fate}
 pub use Rattle.ripngd_lab.specs.declared.expecting.Fate.TheVariants.{Arrives as FateArrives, Loops as FateLoops, Lost}
-pub use Rattle.ripngd_lab.specs.declared.expecting.Missed.{Missed}
-pub use Rattle.ripngd_lab.specs.declared.expecting.Missed.TheVariants.{NoSuchRouter, Found}
 pub use Rattle.ripngd_lab.specs.declared.expecting.Obstacle.{Obstacle}
 pub use Rattle.ripngd_lab.specs.declared.plan.Outages.{Outages}
 pub use Rattle.ripngd_lab.specs.declared.plan.Ticking.{Ticking}
 pub use Rattle.ripngd_lab.specs.declared.plan.Ticking.TheVariants.{Nobody, One, All, Due}
 pub use Rattle.ripngd_lab.specs.declared.plan.Wave.{Wave}
 pub use Rattle.ripngd_lab.specs.declared.printer.Notice.{Notice}
-pub use Rattle.ripngd_lab.specs.declared.stop.Refusal.TheVariants.{Outage, Phases}
+pub use Rattle.ripngd_lab.specs.declared.stop.Refusal.TheVariants.{Event as RefusedEvent, Outage, Phases}
 pub use Rattle.ripngd_lab.specs.declared.stop.Stop.{Stop}
 pub use Rattle.ripngd_lab.specs.declared.stop.Stop.TheVariants.{Refused, Failed, Unmet}
+pub use Rattle.ripngd_lab.specs.declared.stop.Unmet.TheVariants.{Metric}

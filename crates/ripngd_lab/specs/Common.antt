@@ -7,6 +7,6 @@ pub use Rattle.ripng_phases.specs.Making.{HealsIn}
 pub use Rattle.ripngd_lab.specs.Asides.{aside_of, Broken, Prints, Aside, NextLine}
 pub use Rattle.ripngd_lab.specs.Expecting.{HasMissed, fate_of, metric_at}
 pub use Rattle.ripngd_lab.specs.Phasing.{AllTakePart, AreMadeAndCounted, IsStopAt, StopsPhases}
-pub use Rattle.ripngd_lab.specs.Plans.{brings_lost, with_member, addr_at, all_ticks, first_of, is_silent, reaches, ticks_of}
-pub use Rattle.ripngd_lab.specs.ScriptWatching.{HasTold, IsToldOfLab, IsToldUntil, StartsAt, has_failed, lab_in}
+pub use Rattle.ripngd_lab.specs.Plans.{brings_lost, with_member, addr_at, first_of, reaches, ticks_of}
+pub use Rattle.ripngd_lab.specs.ScriptWatching.{HasTold, IsToldOfLab, IsToldUntil, lab_in}
 pub use Rattle.ripngd_lab.specs.Below.{LabValue, event_of}

@@ -1,6 +1,6 @@
 -- What a script expects of a table, and of packets on a path.
 use Rattle.std.specs.Prelude.{◌≡◌, ◌≢◌, ℕ, List, Option, None, Some, option_map, slice_get}
-use Rattle.ripngd_lab.specs.Below.{Prefix6, State, Expected, Missed, NoSuchRouter, Found, PathEnd, Delivered, Loops, Fate, FateArrives, FateLoops, Lost, Obstacle}
+use Rattle.ripngd_lab.specs.Below.{Prefix6, State, Expected, Stop, Refused, RefusedEvent, NoSuchRouter, Unmet, Metric, PathEnd, Delivered, Loops, Fate, FateArrives, FateLoops, Lost, Obstacle}
 use Rattle.std.specs.FinMap as map_of
 
 -- the metric of a router's route to a prefix, if it has one
@@ -12,9 +12,10 @@ abbrev pub metric_at : List State → ℕ → Prefix6 → Option (Option ℕ)
 metric_at states router p = option_map (λ s. metric_in s p) (slice_get states router)
 
 -- why an expectation is not met: there is no such router, or this is found, and it is not what is expected
-abbrev pub HasMissed : List State → Expected → Missed → Type 0
-HasMissed states e NoSuchRouter = slice_get states e.router ≡ None
-HasMissed states e (Found found) = (metric_at states e.router e.prefix ≡ Some found) × (found ≢ e.metric)
+abbrev pub HasMissed : List State → Expected → Stop → Type 0
+HasMissed states e (Refused (RefusedEvent NoSuchRouter)) = slice_get states e.router ≡ None
+HasMissed states e (Unmet (Metric expected found)) = (expected ≡ e) × (metric_at states e.router e.prefix ≡ Some found) × (found ≢ e.metric)
+HasMissed states e _ = ⊥
 
 -- they are lost where something is in their way, or else as the path ends
 abbrev pub fate_of : PathEnd → Option Obstacle → Fate

@@ -78,13 +78,10 @@ pub fn number<N: FromStr<Err: Drop>>(word: &str) -> Result<N, Wrong> {
     word.parse().map_err(|_| Wrong::Differs)
 }
 
-/// A number from 1 to `most`.
-pub fn up_to<N>(word: &str, most: N) -> Result<N, Wrong>
-where
-    N: FromStr<Err: Drop> + Ord + Default + Copy,
-{
+/// A number from 1 to `max`.
+pub fn up_to<N: FromStr<Err: Drop> + Ord + Default + Copy>(word: &str, max: N) -> Result<N, Wrong> {
     match number(word)? {
-        count if count > N::default() && count <= most => Ok(count),
+        count if count > N::default() && count <= max => Ok(count),
         _ => Err(Wrong::Differs),
     }
 }

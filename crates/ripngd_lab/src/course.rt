@@ -8,8 +8,8 @@ use crate::moving::make_phases;
 use crate::plan::{Ticking, set_member};
 use crate::site::{Held, Site};
 use crate::{
-    Expected, Horizon, Line, Missed, Notice, Outages, Outcome, Refusal, Routes, Stop, Unmet, Watch,
-    Way, meet,
+    Expected, Horizon, Line, Notice, Outages, Outcome, Refusal, Routes, Stop, Unmet, Watch, Way,
+    meet,
 };
 use prefix6::Prefix;
 use ripng_world::{Event, Lab, LabError};
@@ -180,11 +180,7 @@ impl Course {
             prefix: line.prefix,
             metric: line.metric,
         };
-        match meet(self.site.running(), &expected) {
-            Ok(()) => Ok(()),
-            Err(Missed::NoSuchRouter) => Err(Stop::from(LabError::NoSuchRouter)),
-            Err(Missed::Found(found)) => Err(Stop::Unmet(Unmet::Metric { expected, found })),
-        }
+        meet(self.site.running(), expected)
     }
 
     /// Where the packets of a line go.

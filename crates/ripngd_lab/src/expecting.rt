@@ -4,9 +4,9 @@
 ghost use Rattle.std.specs.Prelude.{◌≡◌, IfErr, IfOk, OnOk, Some};
 ghost use Rattle.ripngd_lab.specs.Common.{forwardings_of, IsPath, HasMissed, metric_at, fate_of};
 
-use crate::{Network, Outages, Stop};
+use crate::{Network, Outages, Outcome, Refusal, Stop, Unmet};
 use prefix6::{Addr6, Prefix};
-use ripng_world::{Path, PathEnd, Running};
+use ripng_world::{LabError, Path, PathEnd, Running};
 use route_table::RouteStore;
 
 /// What a script expects of a router's table.
@@ -19,32 +19,23 @@ pub struct Expected {
     pub metric: Option<u8>,
 }
 
-/// Why an expectation is not met.
-#[derive(Clone, Copy, Debug, PartialEq, Eq)]
-pub enum Missed {
-    /// The network has no such router.
-    NoSuchRouter,
-    /// The route has this metric, or there is no route.
-    Found(Option<u8>),
-}
-
 /// Meets an expectation exactly where the router's table has that metric for the prefix, or no route where none is expected.
 ///
 /// # Errors
 /// What was found in its place, or that there is no such router.
-pub fn meet<S: RouteStore>(lab: &Running<S>, expected: &Expected) -> Result<(), Missed>
-    ensures met { OnOk result (metric_at lab.now.world.states expected.now.router expected.now.prefix ≡ Some expected.now.metric) }
-    ensures missed { IfErr result (HasMissed lab.now.world.states expected.now) }
+pub fn meet<S: RouteStore>(lab: &Running<S>, expected: Expected) -> Outcome
+    ensures met { OnOk result (metric_at lab.now.world.states expected.router expected.prefix ≡ Some expected.metric) }
+    ensures missed { IfErr result (HasMissed lab.now.world.states expected) }
 {
     let Some(router) = lab.router(expected.router) else {
-        return Err(Missed::NoSuchRouter);
+        return Err(Stop::Refused(Refusal::Event(LabError::NoSuchRouter)));
     };
     let route = router.routes().get(&expected.prefix);
     let found = route.map(|route| route.metric());
     if found == expected.metric {
         return Ok(());
     }
-    Err(Missed::Found(found))
+    Err(Stop::Unmet(Unmet::Metric(expected, found)))
 }
 
 /// What becomes of packets.

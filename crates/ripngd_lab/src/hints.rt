@@ -20,6 +20,9 @@ const LONGEST: usize = 12;
 /// What a line should have been, or out of memory.
 type Hint = Result<String, AllocError>;
 
+/// The same with the number of the line, if there is a hint.
+type LineHint = Result<Option<(usize, String)>, AllocError>;
+
 /// Runs a script as [`lab`](crate::lab) does. If a refused line ends it, `err` gets a line `ripngd: line L: ..` with a hint, if there
 /// is one; for a network that is refused, L is the line with the fault. If `err` or memory fails, there is no hint.
 ///
@@ -47,11 +50,7 @@ pub fn lab_hinted<W: Write, E: Write>(
 ///
 /// # Errors
 /// Out of memory.
-pub fn hint_of(
-    alloc: Global,
-    script: &[u8],
-    ending: &Ending,
-) -> Result<Option<(usize, String)>, AllocError> {
+pub fn hint_of(alloc: Global, script: &[u8], ending: &Ending) -> LineHint {
     let mut lines = script.split(|byte| *byte == b'\n');
     let line = words_in(lines.nth(ending.line.saturating_sub(1)).unwrap_or(&[]));
     let hint = match ending.refusal {
@@ -191,12 +190,7 @@ fn hint_of_word(alloc: Global, line: &str, form: usize, place: usize, wrong: Wro
 /// The number, from 1, of the line with the fault of a network that is refused at the line `cold`, and what the line should have been.
 /// It is the first line, of a router that is named, such that the network of the lines up to it is refused for the same reason. With a
 /// line of prefixes all routers and interfaces count, with another one no prefixes do.
-pub fn fault_of(
-    alloc: Global,
-    script: &[u8],
-    cold: usize,
-    refused: NetRefused,
-) -> Result<Option<(usize, String)>, AllocError> {
+fn fault_of(alloc: Global, script: &[u8], cold: usize, refused: NetRefused) -> LineHint {
     let mut context = Context::new(alloc);
     let mut routers = 0_usize;
     for (place, text) in script.split(|byte| *byte == b'\n').take(cold).enumerate() {

@@ -17,7 +17,7 @@ mod stop;
 
 use context::Context;
 use course::Course;
-pub use expecting::{Expected, Fate, Missed, Obstacle, Way, meet};
+pub use expecting::{Expected, Fate, Obstacle, Way, meet};
 pub use forms::{BadLine, Wrong};
 pub use hints::{hint_of, lab_hinted};
 pub use horizon::Horizon;

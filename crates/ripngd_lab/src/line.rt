@@ -59,9 +59,8 @@ pub struct Line<'a> {
 /// Reads a line, whose words are one space apart; or says where it leaves the form that it follows longest. The last time is then the
 /// one that it names.
 pub fn read_line<'a>(text: &'a str, context: &mut Context) -> Result<Line<'a>, BadLine> {
-    let mut farthest = 0;
+    let (mut farthest, mut last) = (0, context.last);
     let mut bad = BadLine::Unknown;
-    let mut last = context.last;
     for (form, (words, verb)) in FORMS.iter().enumerate() {
         let mut line = Line::new(*verb, context);
         let Err(wrong) = line.follow(words, text, context) else {
@@ -157,8 +156,9 @@ impl<'a> Line<'a> {
             }
             "PHASES" => {
                 self.count = up_to(word, PHASES_LIMIT)?;
-                let count = self.count;
-                self.last = context.latest.and_then(|now| end_of_phases(now, count));
+                self.last = context
+                    .latest
+                    .and_then(|now| end_of_phases(now, self.count));
             }
             "SEED" => self.seed = number(word)?,
             part => self.take_other(part, word)?,

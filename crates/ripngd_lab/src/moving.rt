@@ -24,9 +24,6 @@ pub const PHASES_LIMIT: usize = 1000;
 /// How long a phase takes, in milliseconds.
 const PHASE_MS: u64 = 60_000;
 
-/// The last moment that there is, in milliseconds.
-const LAST_MS: u64 = 1 << 60;
-
 /// What became of a line of phases.
 #[derive(Clone, Copy, Debug, PartialEq, Eq)]
 pub struct MadePhases {
@@ -190,7 +187,7 @@ fn make_whole_rounds<V: Watch>(
 
 /// When so many phases are over of which the first begins at a moment, or the last moment that there is.
 pub fn end_of_phases(begin: Moment, phases: usize) -> Option<Moment> {
-    moment_after(begin, PHASE_MS, phases as u64).or(Moment::new(LAST_MS))
+    moment_after(begin, PHASE_MS, phases as u64).or(Moment::new(1 << 60))
 }
 
 /// So many phases are made, one after another, by the chance of a generator that starts from a seed, and the observer is notified in

@@ -3,7 +3,7 @@
 //! would do, let no `phases` be, and hold back nothing that a line says of one datagram or of one router; what is lost comes to nobody.
 
 ghost use Rattle.std.specs.Prelude.{◌≡◌, false, true, IfOk, IsFalse, IsTrue, OnErr, OnOk, map};
-ghost use Rattle.ripngd_lab.specs.Common.{event_of, brings_lost, AllTakePart, addr_at, all_ticks, first_of, is_silent, reaches, ticks_of, with_member};
+ghost use Rattle.ripngd_lab.specs.Common.{event_of, brings_lost, AllTakePart, addr_at, first_of, reaches, ticks_of, with_member};
 
 use crate::context::number;
 use crate::{Course, Network, Outcome, Refusal, Stop};
@@ -33,13 +33,6 @@ impl Outages {
         self.silent.is_empty() && self.cut.is_empty()
     }
 
-    /// Whether a router takes no part.
-    pub fn is_silent(&self, router: usize) -> bool
-        ensures { result ≡ is_silent self.now router }
-    {
-        self.silent.iter().any(|silent| *silent == router)
-    }
-
     /// An event brings no datagram that is lost, else `DatagramLost`.
     pub fn check_event(&self, event: &Event<'_>) -> Outcome
         ensures passed { OnOk result (brings_lost self.now.lost.items (event_of event.now) ≡ false) }
@@ -61,7 +54,6 @@ pub fn set_member(members: &mut Vec<usize>, member: usize, is_in: bool) -> Resul
     members.retain(|other| *other != member);
     if is_in {
         members.push(member)?;
-        return Ok(());
     }
     Ok(())
 }
@@ -96,11 +88,14 @@ impl<'a> Wave<'a> {
     pub fn ticks(&self, alloc: Global, routers: usize, outages: &Outages) -> Events
         ensures { IfOk result (λ ticks. map event_of ticks.items ≡ ticks_of self.now outages.now routers) }
     {
-        let now = self.moment;
+        let (now, word) = (self.moment, 0);
         match self.ticking {
             Ticking::Nobody => Ok(Vec::new(alloc)),
             Ticking::One { router, word } => Ok(vec![in alloc; Event::Tick { router, now, word }]?),
-            Ticking::All | Ticking::Due { .. } => all_ticks(alloc, routers, now, outages),
+            Ticking::All | Ticking::Due { .. } => (0..routers)
+                .filter(|router| !outages.silent.contains(router))
+                .map(|router| Event::Tick { router, now, word })
+                .collect(alloc),
         }
     }
 
@@ -160,21 +155,6 @@ impl<'a> Wave<'a> {
             })
             .collect(course.alloc)
     }
-}
-
-/// A tick of each router that is not silent, with the word 0.
-fn all_ticks(alloc: Global, routers: usize, now: Moment, outages: &Outages) -> Events
-    ensures { IfOk result (λ ticks. map event_of ticks.items ≡ all_ticks outages.now routers now) }
-{
-    let mut ticks = Vec::new(alloc);
-    for router in 0..routers {
-        if outages.is_silent(router) {
-            continue;
-        }
-        let word = 0;
-        ticks.push(Event::Tick { router, now, word })?;
-    }
-    Ok(ticks)
 }
 
 /// Whether a datagram reaches an interface: another one of its link, where neither router is silent and the link is not cut. One to an

@@ -245,7 +245,7 @@ impl<'a, W: Write> Watch for Printer<'a, W> {
 /// Of the writer.
 pub fn print_unmet<W: Write>(names: Names<'_>, unmet: &Unmet, out: &mut W) -> io::Result<()> {
     match unmet {
-        Unmet::Metric { expected, found } => {
+        Unmet::Metric(expected, found) => {
             let (router, found) = (names.of(expected.router), OrNone(*found));
             let (prefix, metric) = (expected.prefix, OrNone(expected.metric));
             write!(out, "expected {router} {prefix} {metric} found {found}")
@@ -260,7 +260,7 @@ pub fn print_unmet<W: Write>(names: Names<'_>, unmet: &Unmet, out: &mut W) -> io
             let (fate, found) = (name_of(expected, &FATES), name_of(found, &FATES));
             write!(out, "expected path {router} {addr} {fate} found {found}")
         }
-        Unmet::Refusal { name, found } => {
+        Unmet::Refusal(name, found) => {
             write!(out, "expected refused {} found ", name.word())?;
             match found {
                 Some(found) => write!(out, "refused {found}"),

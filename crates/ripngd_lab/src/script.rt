@@ -1,14 +1,14 @@
 //! A script, line by line: its routers are listed until they start, and then live in a network.
 
-ghost use Rattle.std.specs.Prelude.{◌<◌, ◌≡◌, ◌⊎◌, IfOk, IfSome, None, OnErr, OnOk, Option, length, true};
-ghost use Rattle.ripngd_lab.specs.Common.{LabValue, Broken, HasTold, IsToldOfLab, IsToldUntil, StartsAt, has_failed, lab_in};
+ghost use Rattle.std.specs.Prelude.{◌<◌, ◌≡◌, IfSome, None, OnErr, OnOk, Option, length};
+ghost use Rattle.ripngd_lab.specs.Common.{LabValue, HasTold, IsToldOfLab, IsToldUntil, lab_in};
 
 use crate::course::check_named;
 use crate::forms::Verb;
 use crate::line::read_line;
 use crate::{
-    BadLine, Context, Course, Ending, Line, Names, Notice, Outcome, Printer, Refusal, RefusalName,
-    Routes, Stop, Unmet, Watch, names_of,
+    BadLine, Context, Course, Ending, Line, Names, Network, Notice, Outcome, Printer, Refusal,
+    RefusalName, Stop, Unmet, Watch, names_of,
 };
 use prefix6::{Addr6, Prefix};
 use ripng_world::{Lab, LabError, NetConfig, NetInterface, Node};
@@ -40,8 +40,7 @@ pub fn watched<V: Watch>(alloc: Global, script: &[u8], watch: &mut V) -> io::Res
     ensures told_until { OnErr result ((end : Option LabValue) × IsToldUntil V.starts V.takes V.fails V.notes (None, watch.old) (end, watch.new)) }
 {
     let mut session = Session::new(alloc);
-    let mut number = 0_usize;
-    let mut rest = Some(script);
+    let (mut number, mut rest) = (0_usize, Some(script));
     while let Some(text) = rest {
         let (line, after) = first_line(text);
         rest = after;
@@ -76,10 +75,8 @@ fn first_line(text: &[u8]) -> (&[u8], Option<&[u8]>)
 /// The words of a line, without the blanks around them and without a remark; of `say` all but a carriage return at its end.
 fn words_of(text: &str) -> &str {
     let text = text.trim_ascii_start();
-    if text.starts_with("say ") {
-        return text.trim_end_matches('\r');
-    }
     match text.split_once(" #") {
+        _ if text.starts_with("say ") => text.trim_end_matches('\r'),
         _ if text.starts_with('#') => "",
         Some((words, _)) => words.trim_ascii_end(),
         None => text.trim_ascii_end(),
@@ -91,6 +88,7 @@ pub fn words_in(line: &[u8]) -> &str {
     words_of(str::from_utf8(line).unwrap_or(""))
 }
 
+/// Does what a line says. If it is to be refused by a name, it is as it should be where it is.
 fn run_line<V: Watch>(alloc: Global, session: &mut Session, line: &[u8], watch: &mut V) -> Outcome
     ensures { HasTold result V.starts V.takes V.fails V.notes (lab_in session.old.course, watch.old) (lab_in session.new.course, watch.new) }
 {
@@ -102,25 +100,12 @@ fn run_line<V: Watch>(alloc: Global, session: &mut Session, line: &[u8], watch: 
     if words.is_empty() {
         return Ok(());
     }
-    let awaited = session.awaited.take();
-    let outcome = session.obey(alloc, words, watch);
-    match awaited {
-        Some(name) => await_refusal(name, outcome),
-        None => outcome,
+    match (session.awaited.take(), session.obey(alloc, words, watch)) {
+        (Some(name), Ok(())) => Err(Stop::Unmet(Unmet::Refusal(name, None))),
+        (Some(name), Err(Stop::Refused(why))) if why.is_named(name.word()) => Ok(()),
+        (Some(name), Err(Stop::Refused(why))) => Err(Stop::Unmet(Unmet::Refusal(name, Some(why)))),
+        (_, outcome) => outcome,
     }
-}
-
-/// What becomes of a line that is to be refused by a name: it is as it should be where it is.
-fn await_refusal(name: RefusalName, outcome: Outcome) -> Outcome
-    ensures { has_failed result ≡ has_failed outcome }
-{
-    let found = match outcome {
-        Ok(()) => None,
-        Err(Stop::Refused(found)) if found.is_named(name.word()) => return Ok(()),
-        Err(Stop::Refused(found)) => Some(found),
-        Err(stop) => return Err(stop),
-    };
-    Err(Stop::Unmet(Unmet::Refusal { name, found }))
 }
 
 /// A script that runs.
@@ -191,10 +176,10 @@ impl Session {
                 self.awaited = line.refusal;
                 Ok(())
             }
-            Verb::Act(action) => match &mut self.course {
-                Some(course) => course.act(action, &line, watch),
-                None => Err(Stop::from(BadLine::BeforeStart)),
-            },
+            Verb::Act(action) => {
+                let course = self.course.as_mut().ok_or(BadLine::BeforeStart)?;
+                course.act(action, &line, watch)
+            }
         }
     }
 
@@ -211,18 +196,20 @@ impl Session {
         list(alloc, &mut self.nodes, line)
     }
 
-    /// The routers start.
+    /// A network is checked, and its routers start at one time, which the observer is notified of.
     fn start<V: Watch>(&mut self, alloc: Global, now: Moment, watch: &mut V) -> Outcome
         ensures { HasTold result V.starts V.takes V.fails V.notes (lab_in self.old.course, watch.old) (lab_in self.new.course, watch.new) }
     {
-        match &self.course {
-            Some(_) => Err(Stop::from(BadLine::SecondStart)),
-            None => {
-                let nodes = mem::replace(&mut self.nodes, Vec::new(alloc));
-                self.course = Some(Course::new(alloc, begin_lab(alloc, nodes, now, watch)?));
-                Ok(())
-            }
+        if self.course.is_some() {
+            return Err(Stop::from(BadLine::SecondStart));
         }
+        let nodes = mem::replace(&mut self.nodes, Vec::new(alloc));
+        let moments = vec![in alloc; now; nodes.len()]?;
+        let network = NetConfig::check(alloc, nodes).map_err(Refusal::Network)?;
+        let lab = Lab::cold(alloc, network, moments.as_slice())?;
+        watch.started(lab.running(), now)?;
+        self.course = Some(Course::new(alloc, lab));
+        Ok(())
     }
 
     /// A forged Response arrives. If it is refused, the network stays verified.
@@ -231,31 +218,34 @@ impl Session {
     {
         let bytes = line.bytes(alloc)?;
         let arrival = line.arrival(&bytes);
-        let course = self.running()?;
-        course.site.running().check_lie(line.router, &arrival)?;
+        self.running()?.check_lie(line.router, &arrival)?;
         self.give_up();
-        match &mut self.course {
-            Some(course) => course.lie(line.router, arrival, None, watch),
-            None => Err(Stop::from(BadLine::BeforeStart)),
-        }
+        let course = self.course.as_mut().ok_or(BadLine::BeforeStart)?;
+        course.lie(line.router, arrival, None, watch)
     }
 
     /// A router has another horizon from now on, and the network is verified no longer.
     fn bend<V: Watch>(&mut self, line: &Line<'_>, watch: &mut V) -> Outcome
         ensures { HasTold result V.starts V.takes V.fails V.notes (lab_in self.old.course, watch.old) (lab_in self.new.course, watch.new) }
     {
-        let routers = self.running()?.site.running().routers();
+        let routers = self.running()?.routers();
         check_named(Some(line.router), routers, LabError::NoSuchRouter)?;
         self.give_up();
-        match &mut self.course {
-            Some(course) => course.bend(line, watch),
-            None => Err(Stop::from(BadLine::BeforeStart)),
-        }
+        self.course
+            .as_mut()
+            .ok_or(BadLine::BeforeStart)?
+            .bend(line, watch)
     }
 
     /// The network, if its routers have started.
-    fn running(&self) -> Result<&Course, BadLine> {
-        self.course.as_ref().ok_or(BadLine::BeforeStart)
+    fn running(&self) -> Result<&Network, BadLine> {
+        Ok(
+            self.course
+                .as_ref()
+                .ok_or(BadLine::BeforeStart)?
+                .site
+                .running(),
+        )
     }
 
     /// The network is verified no longer.
@@ -267,23 +257,6 @@ impl Session {
             self.course = Some(course);
         }
     }
-}
-
-/// A network is checked, and its routers start at one time, which the observer is notified of.
-fn begin_lab<V: Watch>(
-    alloc: Global,
-    nodes: Vec<Node>,
-    now: Moment,
-    watch: &mut V,
-) -> Result<Lab<Routes>, Stop>
-    ensures started { IfOk result (λ lab. StartsAt lab now × V.starts watch.old lab now watch.new) }
-    ensures untold { OnErr result (watch.new ≡ watch.old ⊎ has_failed result ≡ true × V.notes watch.old Broken watch.new) }
-{
-    let moments = vec![in alloc; now; nodes.len()]?;
-    let network = NetConfig::check(alloc, nodes).map_err(Refusal::Network)?;
-    let lab = Lab::cold(alloc, network, moments.as_slice())?;
-    watch.started(lab.running(), now)?;
-    Ok(lab)
 }
 
 /// Adds the part of a network that a line lists, if it lists one.

@@ -35,11 +35,8 @@ pub enum Refusal {
 /// What is not as a line expects.
 #[derive(Clone, Copy, Debug, PartialEq, Eq)]
 pub enum Unmet {
-    /// A router's table has another metric, or no route.
-    Metric {
-        expected: Expected,
-        found: Option<u8>,
-    },
+    /// A router's table has this metric in place of the expected one, or no route.
+    Metric(Expected, Option<u8>),
     /// Something else becomes of packets.
     Fate {
         router: usize,
@@ -48,10 +45,7 @@ pub enum Unmet {
         found: Fate,
     },
     /// The line was to be refused by this name, and is done, or refused for another reason.
-    Refusal {
-        name: RefusalName,
-        found: Option<Refusal>,
-    },
+    Refusal(RefusalName, Option<Refusal>),
 }
 
 /// Why a script ends before its last line.

@@ -1,6 +1,5 @@
-use Rattle.std.proofs.Common.{Some, Err, ap, sym, ◌∙◌}
 use Rattle.ripngd_lab.specs.ScriptWatching.{lab_in}
-use Rattle.ripngd_lab.proofs.ScriptWatching.{has_told, told_from, untold, untold_as}
+use Rattle.ripngd_lab.proofs.ScriptWatching.{has_told, untold, untold_as}
 use Rattle.ripngd_lab.proofs.script.Session.bend.Goals as goal
 
 pub returns-in_err-running : goal.returns-in_err-running
@@ -13,11 +12,6 @@ returns-in_err-check_named g c =
     has_told g.V.Watch.starts g.V.Observer.takes g.V.Observer.fails g.V.Watch.notes c.from_residual-in_err-check_named.result (lab_in c.args.self.now.course, c.args.watch.now) (lab_in c.args.self.now.course, c.args.watch.now)
     (untold g.V.Watch.starts g.V.Observer.takes g.V.Observer.fails g.V.Watch.notes (lab_in c.args.self.now.course, c.args.watch.now))
 
-pub returns-in-Some : goal.returns-in-Some
-returns-in-Some g c =
-    told_from g.V.Watch.starts g.V.Observer.takes g.V.Observer.fails g.V.Watch.notes c.bend.result (lab_in c.args.self.now.course) (Some c.in-Some.course.site) c.args.watch.now (Some c.bend.new.self.site, c.bend.new.watch)
-    (sym c.give_up.ensures ∙ ap lab_in c.in-Some.is) c.bend.ensures
-
-pub returns-in-None : goal.returns-in-None
-returns-in-None g c =
-    untold_as g.V.Watch.starts g.V.Observer.takes g.V.Observer.fails g.V.Watch.notes (Err c.from.result) (lab_in c.args.self.now.course) (lab_in c.give_up.new.self.course) c.args.watch.now c.give_up.ensures
+pub returns-in_err-ok_or : goal.returns-in_err-ok_or
+returns-in_err-ok_or g c =
+    untold_as g.V.Watch.starts g.V.Observer.takes g.V.Observer.fails g.V.Watch.notes c.from_residual-in_err-ok_or.result (lab_in c.args.self.now.course) (lab_in c.give_up.new.self.course) c.args.watch.now c.give_up.ensures

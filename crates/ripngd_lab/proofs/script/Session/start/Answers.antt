@@ -1,21 +1,50 @@
-use Rattle.std.proofs.Common.{Some, Option, Err, ap, sym, subst}
+use Rattle.std.proofs.Common.{◌≡◌, ◌∙◌, rules, ℕ, Option, Some, None, Err, Bool, true, false, is_some, refl, subst, sym}
+use Rattle.std.specs.Prelude.{zero, suc, replicate}
+use Rattle.std.specs.List.{AllByRecursion}
 use Rattle.ripng_world.specs.Labs.{LabValue}
+use Rattle.ripng_world.specs.Network.{Network}
+use Rattle.ripng_world.specs.World.{IsCold}
+use Rattle.ripngd_lab.specs.declared.course.Course.{Course}
 use Rattle.ripngd_lab.specs.ScriptWatching.{IsToldOfLab, lab_in}
-use Rattle.ripngd_lab.proofs.ScriptWatching.{not_begun, untold, has_told, started}
+use Rattle.ripngd_lab.proofs.ScriptWatching.{fault_told, has_told, started, untold}
 use Rattle.ripngd_lab.proofs.script.Session.start.Goals as goal
 
-pub returns-in_err-begin_lab-in-None : goal.returns-in_err-begin_lab-in-None
-returns-in_err-begin_lab-in-None g c =
-    not_begun g.V.Watch.starts g.V.Observer.takes g.V.Observer.fails g.V.Watch.notes c.from_residual.result c.in_err-begin_lab-in-None.field-0.0 (lab_in c.args.self.now.course) c.args.watch.now c.begin_lab.new.watch c.from_residual.ensures.1 c.in_err-begin_lab-in-None.ensures.untold
+apart : true ≡ false → ⊥
+apart e = cc
 
-pub returns-in_ok-begin_lab-in-None : goal.returns-in_ok-begin_lab-in-None
-returns-in_ok-begin_lab-in-None g c =
-    subst (λ (l : LabValue). IsToldOfLab g.V.Watch.starts g.V.Observer.takes g.V.Watch.notes (lab_in c.args.self.now.course, c.args.watch.now) (Some l, c.begin_lab.new.watch)) (sym c.new-in-None.ensures)
-    (subst (λ (l : Option LabValue). IsToldOfLab g.V.Watch.starts g.V.Observer.takes g.V.Watch.notes (l, c.args.watch.now) (Some c.in_ok-begin_lab-in-None.field-0, c.begin_lab.new.watch))
-    (sym (ap lab_in c.in-None.is))
-    (started g.V.Watch.starts g.V.Observer.takes g.V.Observer.fails g.V.Watch.notes c.in_ok-begin_lab-in-None.field-0 c.args.now c.args.watch.now c.begin_lab.new.watch c.in_ok-begin_lab-in-None.ensures.started.0 c.in_ok-begin_lab-in-None.ensures.started.1))
+none_yet : (course : Option Course) → is_some course ≡ false → lab_in course ≡ None
+none_yet None is = refl
+none_yet (Some course) is = absurd (apart is)
 
-pub returns-in-Some : goal.returns-in-Some
-returns-in-Some g c =
-    has_told g.V.Watch.starts g.V.Observer.takes g.V.Observer.fails g.V.Watch.notes (Err c.from.result) (lab_in c.args.self.now.course, c.args.watch.now) (lab_in c.args.self.now.course, c.args.watch.now)
-    (untold g.V.Watch.starts g.V.Observer.takes g.V.Observer.fails g.V.Watch.notes (lab_in c.args.self.now.course, c.args.watch.now))
+all_same : (x n : ℕ) → AllByRecursion (λ m. m ≡ x) (replicate n x)
+all_same x zero = tt
+all_same x (suc n) = (refl, all_same x n)
+
+pub returns-then-is_some : goal.returns-then-is_some
+returns-then-is_some g c =
+    has_told g.V.Watch.starts g.V.Observer.takes g.V.Observer.fails g.V.Watch.notes (Err c.from.result) (lab_in c.args.self.now.course, c.args.watch.now) (lab_in c.args.self.now.course, c.args.watch.now) (untold g.V.Watch.starts g.V.Observer.takes g.V.Observer.fails g.V.Watch.notes (lab_in c.args.self.now.course, c.args.watch.now))
+
+pub returns-in_err-moments : goal.returns-in_err-moments
+returns-in_err-moments g c =
+    has_told g.V.Watch.starts g.V.Observer.takes g.V.Observer.fails g.V.Watch.notes c.from_residual.result (lab_in c.args.self.now.course, c.args.watch.now) (lab_in c.args.self.now.course, c.args.watch.now) (untold g.V.Watch.starts g.V.Observer.takes g.V.Observer.fails g.V.Watch.notes (lab_in c.args.self.now.course, c.args.watch.now))
+
+pub returns-in_err-network : goal.returns-in_err-network
+returns-in_err-network g c =
+    has_told g.V.Watch.starts g.V.Observer.takes g.V.Observer.fails g.V.Watch.notes c.from_residual-in_err-network.result (lab_in c.args.self.now.course, c.args.watch.now) (lab_in c.args.self.now.course, c.args.watch.now) (untold g.V.Watch.starts g.V.Observer.takes g.V.Observer.fails g.V.Watch.notes (lab_in c.args.self.now.course, c.args.watch.now))
+
+pub returns-in_err-lab : goal.returns-in_err-lab
+returns-in_err-lab g c =
+    has_told g.V.Watch.starts g.V.Observer.takes g.V.Observer.fails g.V.Watch.notes c.from_residual-in_err-lab.result (lab_in c.args.self.now.course, c.args.watch.now) (lab_in c.args.self.now.course, c.args.watch.now) (untold g.V.Watch.starts g.V.Observer.takes g.V.Observer.fails g.V.Watch.notes (lab_in c.args.self.now.course, c.args.watch.now))
+
+pub returns-in_err-started : goal.returns-in_err-started
+returns-in_err-started g c =
+    fault_told g.V.Watch.starts g.V.Observer.takes g.V.Observer.fails g.V.Watch.notes c.from_residual-in_err-started.result c.in_err-started.field-0.0 (lab_in c.args.self.now.course) c.args.watch.now c.started.new.self c.from_residual-in_err-started.ensures.1 c.in_err-started.ensures.broken
+
+pub returns : goal.returns
+returns g c =
+    let all : AllByRecursion (λ m. m ≡ c.args.now) c.as_slice.result.now = subst (AllByRecursion (λ m. m ≡ c.args.now)) (sym (c.as_slice.ensures.value ∙ c.in_ok-moments.ensures.items_if_clones_equal (λ y k. search rules))) (all_same c.args.now _) in
+    let cold : IsCold c.in_ok-lab.lab.network c.as_slice.result.now c.in_ok-lab.lab.world = subst (λ (net : Network). IsCold net c.as_slice.result.now c.in_ok-lab.lab.world) (sym c.in_ok-lab.ensures.network) c.in_ok-lab.ensures.cold in
+    let told = subst (λ (l : LabValue). g.V.Watch.starts c.args.watch.now l c.args.now c.started.new.self) c.running.ensures c.in_ok-started.ensures.starts in
+    subst (λ (l : LabValue). IsToldOfLab g.V.Watch.starts g.V.Observer.takes g.V.Watch.notes (lab_in c.args.self.now.course, c.args.watch.now) (Some l, c.started.new.self)) (sym c.new-2.ensures)
+    (subst (λ (l : Option LabValue). IsToldOfLab g.V.Watch.starts g.V.Observer.takes g.V.Watch.notes (l, c.args.watch.now) (Some c.in_ok-lab.lab, c.started.new.self)) (sym (none_yet c.args.self.now.course (sym c.is_some.ensures ∙ c.if-is_some.false)))
+    (started g.V.Watch.starts g.V.Observer.takes g.V.Observer.fails g.V.Watch.notes c.in_ok-lab.lab c.args.now c.args.watch.now c.started.new.self (c.as_slice.result.now, all, cold) told))
