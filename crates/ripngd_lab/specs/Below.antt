@@ -25,6 +25,8 @@ pub use Rattle.ripng_phases.specs.Making.{AreMadeInPart, AreMadePhases}
 pub use Rattle.ripng_phases.specs.declared.refused.PhaseRefused.{PhaseRefused}
 pub use Rattle.ripng_phases.specs.declared.refused.PhaseRefused.TheVariants.{OutOfMemory}
 pub use Rattle.ripngd_lab.specs.declared.course.Course.{Course}
+pub use Rattle.ripngd_lab.specs.declared.course.Site.{Site}
+pub use Rattle.ripngd_lab.specs.declared.course.Site.TheVariants.{Lawful, Lied}
 pub use Rattle.ripngd_lab.specs.declared.expecting.Expected.{Expected}
 pub use Rattle.ripngd_lab.specs.declared.expecting.Fate.{Fate}
 pub use Rattle.ripngd_lab.specs.declared.expecting.Fate.TheVariants.{Arrives as FateArrives, Loops as FateLoops, Lost}

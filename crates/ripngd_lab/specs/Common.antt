@@ -8,5 +8,5 @@ pub use Rattle.ripngd_lab.specs.Asides.{aside_of, Broken, Prints, Aside, NextLin
 pub use Rattle.ripngd_lab.specs.Expecting.{HasMissed, fate_of, metric_at}
 pub use Rattle.ripngd_lab.specs.Phasing.{AllTakePart, AreMadeAndCounted, IsStopAt, StopsPhases}
 pub use Rattle.ripngd_lab.specs.Plans.{brings_lost, with_member, addr_at, first_of, reaches, ticks_of}
-pub use Rattle.ripngd_lab.specs.ScriptWatching.{HasTold, IsToldOfLab, IsToldUntil, lab_in}
+pub use Rattle.ripngd_lab.specs.ScriptWatching.{HasTold, IsToldOfLab, IsToldUntil, lab_in, value_of}
 pub use Rattle.ripngd_lab.specs.Below.{LabValue, event_of}

@@ -5,4 +5,3 @@ pub mod Expecting
 pub mod Phasing
 pub mod Plans
 pub mod ScriptWatching
-pub mod Sites

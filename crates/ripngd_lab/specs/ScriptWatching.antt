@@ -1,6 +1,6 @@
 -- What the observer of a script is notified of: the start of a lab, and then just the run that is done, event by event.
 use Rattle.std.specs.Prelude.{◌≡◌, ◌⊎◌, ℕ, Bool, true, false, List, [], ◌∷◌, Option, Some, None, Result, Ok, Err}
-use Rattle.ripngd_lab.specs.Below.{AllByRecursion, Answer, LabValue, Told, telling, Lies, Event, Stranger, Happens, IsCold, Received, Course, Stop, Refused, Unmet, Failed}
+use Rattle.ripngd_lab.specs.Below.{AllByRecursion, Answer, LabValue, Told, telling, Lies, Event, Stranger, Happens, IsCold, Received, Course, Site, Lawful, Lied, Stop, Refused, Unmet, Failed}
 use Rattle.ripngd_lab.specs.Asides.{Aside, NextLine, Prints, CountsPhases, Lie, Broken}
 
 -- what an observer is notified of: that all routers have started, at one moment; that an event was done, with its answer; the number of
@@ -80,7 +80,12 @@ IsToldUnless true starts takes fails notes s s' = IsToldUntil starts takes fails
 abbrev pub HasTold : {X V : Type 0} → Result X Stop → (V → LabValue → ℕ → V → Type 0) → (V → Told → V → Type 0) → (V → Told → V → Type 0) → (V → Aside → V → Type 0) → Option LabValue × V → Option LabValue × V → Type 0
 HasTold outcome starts takes fails notes s s' = IsToldUnless (has_failed outcome) starts takes fails notes s s'
 
+-- where a script's routers run, whether one of them was lied to or not
+abbrev pub value_of : Site → LabValue
+value_of (Lawful lab) = lab
+value_of (Lied running) = running
+
 -- the lab of a script, once it runs
 abbrev pub lab_in : Option Course → Option LabValue
 lab_in None = None
-lab_in (Some course) = Some course.site
+lab_in (Some course) = Some (value_of course.site)

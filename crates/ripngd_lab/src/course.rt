@@ -1,20 +1,76 @@
 //! A network that runs, and what lines do with it.
 
-ghost use Rattle.std.specs.Prelude.{◌≡◌, ◌<◌, ◌++◌, ◌∷◌, [], IfSome, OnOk, Some, length};
-ghost use Rattle.ripngd_lab.specs.Common.{Prints, aside_of, with_member, HasTold};
+ghost use Rattle.std.specs.Prelude.{◌≡◌, ◌<◌, ◌++◌, ◌∷◌, [], IfErr, IfOk, IfSome, OnOk, Some, length};
+ghost use Rattle.ripngd_lab.specs.Common.{Prints, aside_of, with_member, HasTold, HappensGiving, WatchedInPart, event_of, failures, value_of};
 
 use crate::forms::{Action, Step};
 use crate::moving::make_phases;
 use crate::plan::{Ticking, set_member};
-use crate::site::{Held, Site};
 use crate::{
-    Expected, Horizon, Line, Notice, Outages, Outcome, Refusal, Routes, Stop, Unmet, Watch, Way,
-    meet,
+    Expected, Horizon, Line, Notice, Outages, Outcome, Refusal, Stop, Unmet, Watch, Way, meet,
 };
 use prefix6::Prefix;
-use ripng_world::{Event, Lab, LabError};
-use router_core::INTERFACE_LIMIT;
+use ripng_world::{Event, Lab, LabError, Observer, Running, Stopped};
+use route_table::SortedRoutes;
+use router_core::{Answer, INTERFACE_LIMIT};
 use std::alloc::Global;
+
+/// The tables of a script's routers.
+pub type Routes = SortedRoutes;
+
+/// The routers of a script as they run.
+pub type Network = Running<Routes>;
+
+/// Where a script's routers run.
+#[derive(Drop)]
+pub enum Site {
+    /// A lab, of which all is promised.
+    Lawful(Lab<Routes>),
+    /// Routers of which one may have accepted a forged Response.
+    Lied(Network),
+}
+
+impl Site {
+    /// The same routers, with nothing promised.
+    pub fn lied(self) -> Site
+        ensures { value_of result ≡ value_of self }
+    {
+        match self {
+            Site::Lawful(lab) => Site::Lied(lab.into_running()),
+            lied => lied,
+        }
+    }
+
+    /// The routers as they run.
+    pub fn running(&self) -> &Network
+        ensures { result.now ≡ value_of self.now }
+    {
+        match self {
+            Site::Lawful(lab) => lab.running(),
+            Site::Lied(running) => running,
+        }
+    }
+
+    /// An event happens, and the observer is notified of it, with the router's output.
+    ///
+    /// # Errors
+    /// The first reason to refuse the event, or out of memory, without a notification; or the observer's, and then the event is done.
+    pub fn step_watched<V: Observer<Routes>>(
+        &mut self,
+        event: &Event<'_>,
+        watch: &mut V,
+    ) -> Result<Answer, Stopped<LabError, V::Fault>>
+        ensures told { IfOk result (λ answer. V.takes watch.old (record { lab = value_of self.new; event = event_of event.entry.now; answer = answer; first = length (value_of self.old).world.sent }) watch.new) }
+        ensures stopped { IfErr result (λ why. WatchedInPart V.takes V.fails (failures why) (value_of self.old).network ((value_of self.old).world, watch.old) (event_of event.entry.now ∷ []) ((value_of self.new).world, watch.new)) }
+        ensures happens { IfOk result (λ answer. HappensGiving (value_of self.old) (event_of event.entry.now) answer (value_of self.new).world) }
+        ensures network { (value_of self.new).network ≡ (value_of self.old).network }
+    {
+        match self {
+            Site::Lawful(lab) => lab.step_watched(event, watch),
+            Site::Lied(running) => running.step_watched(event, watch),
+        }
+    }
+}
 
 /// A network that runs, and what a script keeps of it.
 #[derive(Drop)]
@@ -31,13 +87,11 @@ pub struct Course {
 impl Course {
     /// A lab that has just started.
     pub fn new(alloc: Global, lab: Lab<Routes>) -> Course
-        ensures { result.site ≡ lab }
+        ensures { value_of result.site ≡ lab }
     {
         Course {
             alloc,
-            site: Site {
-                held: Held::Lawful(lab),
-            },
+            site: Site::Lawful(lab),
             unheard: 0,
             outages: Outages {
                 silent: Vec::new(alloc),
@@ -55,7 +109,7 @@ impl Course {
 
     /// Does what a line says. The output of a router goes to the observer alone.
     pub fn act<V: Watch>(&mut self, action: Action, line: &Line<'_>, watch: &mut V) -> Outcome
-        ensures { HasTold result V.starts V.takes V.fails V.notes (Some self.old.site, watch.old) (Some self.new.site, watch.new) }
+        ensures { HasTold result V.starts V.takes V.fails V.notes (Some (value_of self.old.site), watch.old) (Some (value_of self.new.site), watch.new) }
     {
         let (router, word) = (line.router, line.word);
         match action {
@@ -93,14 +147,14 @@ impl Course {
     /// The observer is notified of what a line did, beside events and phases.
     fn tell<V: Watch>(&self, notice: Notice<'_>, watch: &mut V) -> Outcome
         requires { aside_of notice ≡ Prints }
-        ensures { HasTold result V.starts V.takes V.fails V.notes (Some self.now.site, watch.old) (Some self.now.site, watch.new) }
+        ensures { HasTold result V.starts V.takes V.fails V.notes (Some (value_of self.now.site), watch.old) (Some (value_of self.now.site), watch.new) }
     {
         Ok(watch.noticed(notice)?)
     }
 
     /// An event at each interface on a link. Where the link goes down it is cut, and where it comes up it is mended.
     fn happen_at_link<V: Watch>(&mut self, kind: Step, line: &Line<'_>, watch: &mut V) -> Outcome
-        ensures { HasTold result V.starts V.takes V.fails V.notes (Some self.old.site, watch.old) (Some self.new.site, watch.new) }
+        ensures { HasTold result V.starts V.takes V.fails V.notes (Some (value_of self.old.site), watch.old) (Some (value_of self.new.site), watch.new) }
     {
         let events = self.events_at(kind, line)?;
         let link = usize::from(line.link);
@@ -112,7 +166,7 @@ impl Course {
 
     /// Rounds are made, and what they sent is passed by.
     fn go_round<V: Watch>(&mut self, line: &Line<'_>, watch: &mut V) -> Outcome
-        ensures { HasTold result V.starts V.takes V.fails V.notes (Some self.old.site, watch.old) (Some self.new.site, watch.new) }
+        ensures { HasTold result V.starts V.takes V.fails V.notes (Some (value_of self.old.site), watch.old) (Some (value_of self.new.site), watch.new) }
     {
         self.make_rounds(line, watch)?;
         self.unheard = self.sent();
@@ -121,9 +175,9 @@ impl Course {
 
     /// Phases are made in a verified network, and what they sent is passed by. After a forged Response there are none.
     fn go_on<V: Watch>(&mut self, line: &Line<'_>, watch: &mut V) -> Outcome
-        ensures { HasTold result V.starts V.takes V.fails V.notes (Some self.old.site, watch.old) (Some self.new.site, watch.new) }
+        ensures { HasTold result V.starts V.takes V.fails V.notes (Some (value_of self.old.site), watch.old) (Some (value_of self.new.site), watch.new) }
     {
-        let Held::Lawful(lab) = &mut self.site.held else {
+        let Site::Lawful(lab) = &mut self.site else {
             return Err(Stop::Refused(Refusal::LiedTo));
         };
         make_phases(self.alloc, lab, line.count, line.seed, &self.outages, watch)?;
@@ -133,7 +187,7 @@ impl Course {
 
     /// A datagram is lost, unless it is already.
     fn lose<V: Watch>(&mut self, datagram: usize, watch: &mut V) -> Outcome
-        ensures told { HasTold result V.starts V.takes V.fails V.notes (Some self.old.site, watch.old) (Some self.new.site, watch.new) }
+        ensures told { HasTold result V.starts V.takes V.fails V.notes (Some (value_of self.old.site), watch.old) (Some (value_of self.new.site), watch.new) }
         ensures lost { OnOk result (self.new.outages.lost.items ≡ self.old.outages.lost.items ++ datagram ∷ []) }
     {
         check_named(Some(datagram), self.sent(), LabError::NoSuchDatagram)?;
@@ -146,7 +200,7 @@ impl Course {
 
     /// A router has another horizon from now on.
     pub fn bend<V: Watch>(&mut self, line: &Line<'_>, watch: &mut V) -> Outcome
-        ensures { HasTold result V.starts V.takes V.fails V.notes (Some self.old.site, watch.old) (Some self.new.site, watch.new) }
+        ensures { HasTold result V.starts V.takes V.fails V.notes (Some (value_of self.old.site), watch.old) (Some (value_of self.new.site), watch.new) }
     {
         let (router, horizon) = (line.router, line.horizon);
         self.horizons.retain(|(other, _)| *other != router);
@@ -158,7 +212,7 @@ impl Course {
 
     /// Prints the routes of a router, or of all, to a prefix, or to all.
     fn print<V: Watch>(&self, router: Option<usize>, to: Option<&Prefix>, watch: &mut V) -> Outcome
-        ensures { HasTold result V.starts V.takes V.fails V.notes (Some self.now.site, watch.old) (Some self.now.site, watch.new) }
+        ensures { HasTold result V.starts V.takes V.fails V.notes (Some (value_of self.now.site), watch.old) (Some (value_of self.now.site), watch.new) }
     {
         let routers = self.site.running().routers();
         check_named(router, routers, LabError::NoSuchRouter)?;
@@ -167,7 +221,7 @@ impl Course {
 
     /// A line that prints datagrams.
     fn show_sent<V: Watch>(&self, asked: Option<usize>, watch: &mut V) -> Outcome
-        ensures { HasTold result V.starts V.takes V.fails V.notes (Some self.now.site, watch.old) (Some self.now.site, watch.new) }
+        ensures { HasTold result V.starts V.takes V.fails V.notes (Some (value_of self.now.site), watch.old) (Some (value_of self.now.site), watch.new) }
     {
         check_named(asked, self.sent(), LabError::NoSuchDatagram)?;
         self.tell(Notice::Datagrams(self.site.running(), asked), watch)
@@ -204,7 +258,7 @@ impl Course {
 
     /// A router is silent from now on, or no longer.
     fn set_silent(&mut self, router: usize, silent: bool) -> Outcome
-        ensures there { OnOk result (router < length self.old.site.network) }
+        ensures there { OnOk result (router < length (value_of self.old.site).network) }
         ensures set { OnOk result (self.new.outages.silent.items ≡ with_member silent router self.old.outages.silent.items) }
         ensures site { self.new.site ≡ self.old.site }
     {

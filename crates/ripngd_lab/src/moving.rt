@@ -2,13 +2,12 @@
 //! stretches of a minute, by chance, in which all that matters gets through once, with no rounds.
 
 ghost use Rattle.std.specs.Prelude.{◌≡◌, IfErr, OnOk, Some};
-ghost use Rattle.ripngd_lab.specs.Common.{HealsIn, AllTakePart, AreMadeAndCounted, IsStopAt, StopsPhases, HasTold};
+ghost use Rattle.ripngd_lab.specs.Common.{HealsIn, AllTakePart, AreMadeAndCounted, IsStopAt, StopsPhases, HasTold, value_of};
 
 use crate::context::{OrNone, moment_after};
 use crate::horizon::Advert;
 use crate::plan::{Ticking, Wave};
-use crate::site::Held;
-use crate::{BadLine, Course, Line, Notice, Outages, Outcome, Refusal, Routes, Stop, Watch};
+use crate::{BadLine, Course, Line, Notice, Outages, Outcome, Refusal, Routes, Site, Stop, Watch};
 use rand_core::SeedableRng;
 use rand_pcg::Pcg32;
 use ripng_phases::{PhaseRefused, run_phases};
@@ -43,7 +42,7 @@ impl fmt::Display for MadePhases {
 impl Course {
     /// An event happens, if it is not refused.
     pub fn step<V: Watch>(&mut self, event: &Event<'_>, watch: &mut V) -> Outcome
-        ensures { HasTold result V.starts V.takes V.fails V.notes (Some self.old.site, watch.old) (Some self.new.site, watch.new) }
+        ensures { HasTold result V.starts V.takes V.fails V.notes (Some (value_of self.old.site), watch.old) (Some (value_of self.new.site), watch.new) }
     {
         match self.site.step_watched(event, watch) {
             Ok(_) => Ok(()),
@@ -61,9 +60,9 @@ impl Course {
         sender: Option<usize>,
         watch: &mut V,
     ) -> Outcome
-        ensures { HasTold result V.starts V.takes V.fails V.notes (Some self.old.site, watch.old) (Some self.new.site, watch.new) }
+        ensures { HasTold result V.starts V.takes V.fails V.notes (Some (value_of self.old.site), watch.old) (Some (value_of self.new.site), watch.new) }
     {
-        let Held::Lied(running) = &mut self.site.held else {
+        let Site::Lied(running) = &mut self.site else {
             return Err(Stop::from(BadLine::BeforeStart));
         };
         let first = running.sent().len();
@@ -79,7 +78,7 @@ impl Course {
     /// A router or a datagram is not there, a regular update is not due; out of memory, or the observer fails. What was done before it
     /// stays done.
     pub fn make_wave<V: Watch>(&mut self, wave: &Wave<'_>, watch: &mut V) -> Outcome
-        ensures { HasTold result V.starts V.takes V.fails V.notes (Some self.old.site, watch.old) (Some self.new.site, watch.new) }
+        ensures { HasTold result V.starts V.takes V.fails V.notes (Some (value_of self.old.site), watch.old) (Some (value_of self.new.site), watch.new) }
     {
         let begin = self.sent();
         let first = wave.first(self.unheard, begin);
@@ -106,7 +105,7 @@ impl Course {
         events: &[Event<'static>],
         watch: &mut V,
     ) -> Outcome
-        ensures { HasTold result V.starts V.takes V.fails V.notes (Some self.old.site, watch.old) (Some self.new.site, watch.new) }
+        ensures { HasTold result V.starts V.takes V.fails V.notes (Some (value_of self.old.site), watch.old) (Some (value_of self.new.site), watch.new) }
     {
         for event in events {
             wave.check(self.site.running(), event)?;
@@ -123,7 +122,7 @@ impl Course {
         event: &Event<'static>,
         watch: &mut V,
     ) -> Outcome
-        ensures { HasTold result V.starts V.takes V.fails V.notes (Some self.old.site, watch.old) (Some self.new.site, watch.new) }
+        ensures { HasTold result V.starts V.takes V.fails V.notes (Some (value_of self.old.site), watch.old) (Some (value_of self.new.site), watch.new) }
     {
         match advert {
             Some(advert) if advert.bytes.is_empty() => Ok(()),
@@ -138,12 +137,12 @@ impl Course {
     /// A round at each time of a line: every router ticks in order, with the word 0, when its regular update is due, and what these ticks
     /// sent is delivered as in one round alone. With outages, and after a forged Response, nothing is promised of them.
     pub fn make_rounds<V: Watch>(&mut self, line: &Line<'_>, watch: &mut V) -> Outcome
-        ensures { HasTold result V.starts V.takes V.fails V.notes (Some self.old.site, watch.old) (Some self.new.site, watch.new) }
+        ensures { HasTold result V.starts V.takes V.fails V.notes (Some (value_of self.old.site), watch.old) (Some (value_of self.new.site), watch.new) }
     {
         let at = |round: u64| moment_after(line.now, line.gap, round).unwrap_or(line.now);
         let moments: Vec<Moment> = (0..line.count as u64).map(at).collect(self.alloc)?;
         if self.outages.are_none()
-            && let Held::Lawful(lab) = &mut self.site.held
+            && let Site::Lawful(lab) = &mut self.site
         {
             return make_whole_rounds(self.alloc, lab, &moments, watch);
         }

@@ -2,25 +2,23 @@ use Rattle.std.proofs.Common.{◌≡◌, ◌∙◌, Err, Some, ap, length, subst
 use Rattle.ripng_world.specs.Labs.{LabValue}
 use Rattle.ripng_world.specs.World.{Stranger}
 use Rattle.ripngd_lab.specs.Asides.{Lie}
-use Rattle.ripngd_lab.specs.declared.course.Course.{Course}
-use Rattle.ripngd_lab.specs.ScriptWatching.{IsToldOfLab}
-use Rattle.ripngd_lab.specs.Sites.{value_of}
-use Rattle.ripngd_lab.proofs.ScriptWatching.{failed_until, lie_failed, lied, told_from, untold_as}
+use Rattle.ripngd_lab.specs.ScriptWatching.{IsToldOfLab, value_of}
+use Rattle.ripngd_lab.proofs.ScriptWatching.{failed_until, has_told, lie_failed, lied, told_from, untold, untold_as}
 use Rattle.ripngd_lab.proofs.course.Course.lie.Goals as goal
 
 pub returns-in_default : goal.returns-in_default
 returns-in_default g c =
-    untold_as g.V.Watch.starts g.V.Observer.takes g.V.Observer.fails g.V.Watch.notes (Err c.from.result) (Some c.args.self.now.site) _ c.args.watch.now (ap (λ (x : Course). Some x.site) c.self.view_is)
+    has_told g.V.Watch.starts g.V.Observer.takes g.V.Observer.fails g.V.Watch.notes (Err c.from.result) (Some (value_of c.args.self.now.site), c.args.watch.now) (Some (value_of c.args.self.now.site), c.args.watch.now) (untold g.V.Watch.starts g.V.Observer.takes g.V.Observer.fails g.V.Watch.notes (Some (value_of c.args.self.now.site), c.args.watch.now))
 
 pub returns-in_err-answer : goal.returns-in_err-answer
 returns-in_err-answer g c =
-    let same : c.in-Lied.running ≡ c.args.self.now.site = ap value_of (sym c.in-Lied.is) ∙ ap (λ (x : Course). x.site) c.self.view_is in
-    untold_as g.V.Watch.starts g.V.Observer.takes g.V.Observer.fails g.V.Watch.notes c.from_residual.result (Some c.args.self.now.site) (Some c.lie.new.self) c.args.watch.now (ap Some (c.in_err-answer.ensures.err ∙ same))
+    let same : c.in-Lied.running ≡ (value_of c.args.self.now.site) = ap value_of (sym c.in-Lied.is) in
+    untold_as g.V.Watch.starts g.V.Observer.takes g.V.Observer.fails g.V.Watch.notes c.from_residual.result (Some (value_of c.args.self.now.site)) (Some c.lie.new.self) c.args.watch.now (ap Some (c.in_err-answer.ensures.err ∙ same))
 
 pub returns-in_err-noticed : goal.returns-in_err-noticed
 returns-in_err-noticed g c =
-    let same : c.in-Lied.running ≡ c.args.self.now.site = ap value_of (sym c.in-Lied.is) ∙ ap (λ (x : Course). x.site) c.self.view_is in
-    told_from g.V.Watch.starts g.V.Observer.takes g.V.Observer.fails g.V.Watch.notes c.from_residual-in_err-noticed.result (Some c.args.self.now.site) (Some c.in-Lied.running) c.args.watch.now (Some c.lie.new.self, c.noticed.new.self) (ap Some (sym same))
+    let same : c.in-Lied.running ≡ (value_of c.args.self.now.site) = ap value_of (sym c.in-Lied.is) in
+    told_from g.V.Watch.starts g.V.Observer.takes g.V.Observer.fails g.V.Watch.notes c.from_residual-in_err-noticed.result (Some (value_of c.args.self.now.site)) (Some c.in-Lied.running) c.args.watch.now (Some c.lie.new.self, c.noticed.new.self) (ap Some (sym same))
     (failed_until g.V.Watch.starts g.V.Observer.takes g.V.Observer.fails g.V.Watch.notes c.from_residual-in_err-noticed.result c.in_err-noticed.field-0.0 (Some c.in-Lied.running, c.args.watch.now) (Some c.lie.new.self, c.noticed.new.self)
     c.from_residual-in_err-noticed.ensures.1
     (lie_failed g.V.Watch.starts g.V.Observer.takes g.V.Observer.fails g.V.Watch.notes c.in-Lied.running c.lie.new.self c.args.router c.args.arrival c.in_ok-answer.answer c.args.watch.now c.noticed.new.self
@@ -28,7 +26,7 @@ returns-in_err-noticed g c =
 
 pub returns : goal.returns
 returns g c =
-    let same : c.in-Lied.running ≡ c.args.self.now.site = ap value_of (sym c.in-Lied.is) ∙ ap (λ (x : Course). x.site) c.self.view_is in
+    let same : c.in-Lied.running ≡ (value_of c.args.self.now.site) = ap value_of (sym c.in-Lied.is) in
     subst (λ (l : LabValue). IsToldOfLab g.V.Watch.starts g.V.Observer.takes g.V.Watch.notes (Some l, c.args.watch.now) (Some c.lie.new.self, c.noticed.new.self)) same
     (lied g.V.Watch.starts g.V.Observer.takes g.V.Observer.fails g.V.Watch.notes c.in-Lied.running c.lie.new.self c.args.router c.args.arrival c.in_ok-answer.answer _ c.args.watch.now c.noticed.new.self
     c.in_ok-answer.ensures.lies c.in_ok-answer.ensures.network (ap length c.sent-first.ensures)
