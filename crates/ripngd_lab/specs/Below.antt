@@ -36,7 +36,7 @@ pub use Rattle.ripngd_lab.specs.declared.plan.Ticking.{Ticking}
 pub use Rattle.ripngd_lab.specs.declared.plan.Ticking.TheVariants.{Nobody, One, All, Due}
 pub use Rattle.ripngd_lab.specs.declared.plan.Wave.{Wave}
 pub use Rattle.ripngd_lab.specs.declared.printer.Notice.{Notice}
-pub use Rattle.ripngd_lab.specs.declared.stop.Refusal.TheVariants.{Event as RefusedEvent, Outage, Phases}
+pub use Rattle.ripngd_lab.specs.declared.stop.Refusal.TheVariants.{Event as RefusedEvent, LiedTo, Outage, Phases}
 pub use Rattle.ripngd_lab.specs.declared.stop.Stop.{Stop}
 pub use Rattle.ripngd_lab.specs.declared.stop.Stop.TheVariants.{Refused, Failed, Unmet}
 pub use Rattle.ripngd_lab.specs.declared.stop.Unmet.TheVariants.{Metric}

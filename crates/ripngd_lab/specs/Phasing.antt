@@ -1,6 +1,6 @@
 -- Phases of a script: when all takes part in them, and why they stop.
 use Rattle.std.specs.Prelude.{◌≡◌, ◌⊎◌, ℕ, ⊤, true, [], Option}
-use Rattle.ripngd_lab.specs.Below.{Error, LabValue, Told, Stopped, IsRefused, HasFailed, AreMadeInPart, AreMadePhases, PhaseRefused, OutOfMemory, Outages, Outage, Phases, Stop, Refused, Failed}
+use Rattle.ripngd_lab.specs.Below.{Error, LabValue, Told, Stopped, IsRefused, HasFailed, AreMadeInPart, AreMadePhases, PhaseRefused, OutOfMemory, Outages, Outage, LiedTo, Phases, Site, Lawful, Lied, Stop, Refused, Failed}
 use Rattle.ripngd_lab.specs.Asides.{Aside, CountsPhases}
 use Rattle.ripngd_lab.specs.ScriptWatching.{is_failure}
 
@@ -25,6 +25,8 @@ StopsInPhase takes fails s (Refused (Phases phase refused)) s' = AreMadeInPart {
 StopsInPhase takes fails s (Failed error) s' = ⊤
 StopsInPhase takes fails s _ s' = ⊥
 
--- something takes no part, and nothing was done; or so it is
-abbrev pub StopsPhases : {V : Type 0} → (V → Told → V → Type 0) → (V → Told → V → Type 0) → Outages → LabValue × V → Stop → LabValue × V → Type 0
-StopsPhases takes fails outages s stop s' = ((AllTakePart outages → ⊥) × (stop ≡ Refused Outage) × (s' ≡ s)) ⊎ (AllTakePart outages × StopsInPhase takes fails s stop s')
+-- a router was lied to, or something takes no part, and nothing was done; or so it is
+abbrev pub StopsPhases : {V : Type 0} → (V → Told → V → Type 0) → (V → Told → V → Type 0) → Site → Outages → V → Stop → LabValue × V → Type 0
+StopsPhases takes fails (Lied lab) outages v stop s' = (stop ≡ Refused LiedTo) × (s' ≡ (lab, v))
+StopsPhases takes fails (Lawful lab) outages v stop s' =
+    ((AllTakePart outages → ⊥) × (stop ≡ Refused Outage) × (s' ≡ (lab, v))) ⊎ (AllTakePart outages × StopsInPhase takes fails (lab, v) stop s')

@@ -4,7 +4,6 @@ ghost use Rattle.std.specs.Prelude.{◌≡◌, ◌<◌, ◌++◌, ◌∷◌, [],
 ghost use Rattle.ripngd_lab.specs.Common.{Prints, aside_of, with_member, HasTold, HappensGiving, WatchedInPart, event_of, failures, value_of};
 
 use crate::forms::{Action, Step};
-use crate::moving::make_phases;
 use crate::plan::{Ticking, set_member};
 use crate::{
     Expected, Horizon, Line, Notice, Outages, Outcome, Refusal, Stop, Unmet, Watch, Way, meet,
@@ -128,7 +127,7 @@ impl Course {
             Action::Hear => self.make_wave(&line.wave(Ticking::Nobody), watch),
             Action::Round => self.make_wave(&line.wave(Ticking::All), watch),
             Action::Rounds => self.go_round(line, watch),
-            Action::Phases => self.go_on(line, watch),
+            Action::Phases => self.make_phases(line, watch),
             Action::Lose => self.lose(line.datagram, watch),
             Action::Silent(silent) => self.set_silent(router, silent),
             Action::Cut(cut) => self.set_cut(line, cut),
@@ -173,18 +172,6 @@ impl Course {
         self.tell(Notice::Rounds(line.count), watch)
     }
 
-    /// Phases are made in a verified network, and what they sent is passed by. After a forged Response there are none.
-    fn go_on<V: Watch>(&mut self, line: &Line<'_>, watch: &mut V) -> Outcome
-        ensures { HasTold result V.starts V.takes V.fails V.notes (Some (value_of self.old.site), watch.old) (Some (value_of self.new.site), watch.new) }
-    {
-        let Site::Lawful(lab) = &mut self.site else {
-            return Err(Stop::Refused(Refusal::LiedTo));
-        };
-        make_phases(self.alloc, lab, line.count, line.seed, &self.outages, watch)?;
-        self.unheard = self.sent();
-        Ok(())
-    }
-
     /// A datagram is lost, unless it is already.
     fn lose<V: Watch>(&mut self, datagram: usize, watch: &mut V) -> Outcome
         ensures told { HasTold result V.starts V.takes V.fails V.notes (Some (value_of self.old.site), watch.old) (Some (value_of self.new.site), watch.new) }
@@ -219,7 +206,6 @@ impl Course {
         self.tell(Notice::Routes(self.site.running(), router, to), watch)
     }
 
-    /// A line that prints datagrams.
     fn show_sent<V: Watch>(&self, asked: Option<usize>, watch: &mut V) -> Outcome
         ensures { HasTold result V.starts V.takes V.fails V.notes (Some (value_of self.now.site), watch.old) (Some (value_of self.now.site), watch.new) }
     {
@@ -227,7 +213,6 @@ impl Course {
         self.tell(Notice::Datagrams(self.site.running(), asked), watch)
     }
 
-    /// A line that expects something of a table.
     fn expect(&self, line: &Line<'_>) -> Outcome {
         let expected = Expected {
             router: line.router,
@@ -237,12 +222,10 @@ impl Course {
         meet(self.site.running(), expected)
     }
 
-    /// Where the packets of a line go.
     fn way(&self, line: &Line<'_>) -> Result<Way, Stop> {
         Way::of(self.site.running(), &self.outages, line.router, line.addr)
     }
 
-    /// A line that expects what becomes of packets.
     fn expect_fate(&self, line: &Line<'_>) -> Outcome {
         let way = self.way(line)?;
         if way.fate() == line.fate {

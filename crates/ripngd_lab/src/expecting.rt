@@ -107,7 +107,6 @@ impl Way {
     }
 }
 
-/// The first obstacle on a path.
 fn obstacle_on(lab: &Network, outages: &Outages, from: usize, path: &Path) -> Option<Obstacle> {
     let mut router = from;
     for hop in path.hops.iter() {

@@ -124,10 +124,7 @@ impl<'a> Line<'a> {
             rest = more;
             self.place = self.place.saturating_add(1);
         }
-        match rest {
-            Some(_) => Err(Wrong::TooMany),
-            None => Ok(()),
-        }
+        rest.map_or(Ok(()), |_| Err(Wrong::TooMany))
     }
 
     /// Reads a word, or for K and TEXT all that are left, as a part of the form.

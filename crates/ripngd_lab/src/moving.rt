@@ -7,7 +7,7 @@ ghost use Rattle.ripngd_lab.specs.Common.{HealsIn, AllTakePart, AreMadeAndCounte
 use crate::context::{OrNone, moment_after};
 use crate::horizon::Advert;
 use crate::plan::{Ticking, Wave};
-use crate::{BadLine, Course, Line, Notice, Outages, Outcome, Refusal, Routes, Site, Stop, Watch};
+use crate::{BadLine, Course, Line, Notice, Outcome, Refusal, Routes, Site, Stop, Watch};
 use rand_core::SeedableRng;
 use rand_pcg::Pcg32;
 use ripng_phases::{PhaseRefused, run_phases};
@@ -34,8 +34,12 @@ pub struct MadePhases {
 
 impl fmt::Display for MadePhases {
     fn fmt<W: fmt::Write>(&self, f: &mut fmt::Formatter<W>) -> fmt::Result {
-        let MadePhases { phases, last } = *self;
-        write!(f, "phases {phases} last change {}", OrNone(last))
+        write!(
+            f,
+            "phases {} last change {}",
+            self.phases,
+            OrNone(self.last)
+        )
     }
 }
 
@@ -156,9 +160,40 @@ impl Course {
         }
         Ok(())
     }
+
+    /// So many phases are made, one after another, by the chance of a generator that starts from a seed, and what they sent is passed by.
+    /// The observer is notified in which of them some table last changed. 28 of them leave each table with the least costs of now, and
+    /// nothing else below 16 hops, whatever happened before.
+    ///
+    /// # Errors
+    /// `LiedTo` after a forged Response, `Outage` where a router is silent or a link is cut: nothing is then done. A router whose regular
+    /// update is not due in time, a phase past the last moment, out of memory, or the observer fails. What was done before it stays done.
+    pub fn make_phases<V: Watch>(&mut self, line: &Line<'_>, watch: &mut V) -> Outcome
+        ensures told { HasTold result V.starts V.takes V.fails V.notes (Some (value_of self.old.site), watch.old) (Some (value_of self.new.site), watch.new) }
+        ensures all { OnOk result (AllTakePart self.old.outages) }
+        ensures made { OnOk result (AreMadeAndCounted V.takes V.notes (value_of self.old.site, watch.old) line.entry.now.count (value_of self.new.site, watch.new)) }
+        ensures heals { OnOk result (HealsIn (value_of self.old.site).network (value_of self.old.site).world line.entry.now.count (value_of self.new.site).world) }
+        ensures stopped { IfErr result (λ stop. StopsPhases V.takes V.fails self.old.site self.old.outages watch.old stop (value_of self.new.site, watch.new)) }
+    {
+        let Site::Lawful(lab) = &mut self.site else {
+            return Err(Stop::Refused(Refusal::LiedTo));
+        };
+        if !self.outages.are_none() {
+            return Err(Stop::Refused(Refusal::Outage));
+        }
+        let (phases, mut rng) = (line.count, Pcg32::seed_from_u64(line.seed));
+        let (phase, outcome) = run_phases(self.alloc, lab, phases, &mut rng, watch);
+        match outcome {
+            Ok(last) => {
+                self.unheard = lab.sent().len();
+                Ok(watch.noticed(Notice::Phases(MadePhases { phases, last }))?)
+            }
+            Err(why) => Err(stop_at(phase, why)),
+        }
+    }
 }
 
-/// The same in a verified network, where all takes part: as [`Lab::run_rounds`] promises.
+/// Rounds in a verified network, where all takes part: as [`Lab::run_rounds`] promises.
 fn make_whole_rounds<V: Watch>(
     alloc: Global,
     lab: &mut Lab<Routes>,
@@ -187,38 +222,6 @@ fn make_whole_rounds<V: Watch>(
 /// When so many phases are over of which the first begins at a moment, or the last moment that there is.
 pub fn end_of_phases(begin: Moment, phases: usize) -> Option<Moment> {
     moment_after(begin, PHASE_MS, phases as u64).or(Moment::new(1 << 60))
-}
-
-/// So many phases are made, one after another, by the chance of a generator that starts from a seed, and the observer is notified in
-/// which of them some table last changed. 28 of them leave each table with the least costs of now, and nothing else below 16 hops,
-/// whatever happened before.
-///
-/// # Errors
-/// `Outage` where a router is silent or a link is cut: nothing is then done. A router whose regular update is not due in time, a
-/// phase past the last moment, out of memory, or the observer fails. What was done before it stays done.
-pub fn make_phases<V: Watch>(
-    alloc: Global,
-    lab: &mut Lab<Routes>,
-    phases: usize,
-    seed: u64,
-    outages: &Outages,
-    watch: &mut V,
-) -> Outcome
-    ensures told { HasTold result V.starts V.takes V.fails V.notes (Some lab.old, watch.old) (Some lab.new, watch.new) }
-    ensures all { OnOk result (AllTakePart outages.now) }
-    ensures made { OnOk result (AreMadeAndCounted V.takes V.notes (lab.old, watch.old) phases (lab.new, watch.new)) }
-    ensures heals { OnOk result (HealsIn lab.old.network lab.old.world phases lab.new.world) }
-    ensures stopped { IfErr result (λ stop. StopsPhases V.takes V.fails outages.now (lab.old, watch.old) stop (lab.new, watch.new)) }
-{
-    if !outages.are_none() {
-        return Err(Stop::Refused(Refusal::Outage));
-    }
-    let mut rng = Pcg32::seed_from_u64(seed);
-    let (phase, outcome) = run_phases(alloc, lab, phases, &mut rng, watch);
-    match outcome {
-        Ok(last) => Ok(watch.noticed(Notice::Phases(MadePhases { phases, last }))?),
-        Err(why) => Err(stop_at(phase, why)),
-    }
 }
 
 /// What a script says where phases stop in the one of that number.

@@ -127,7 +127,6 @@ impl<'a, W: Write> Printer<'a, W> {
         Ok(())
     }
 
-    /// Writes the line of a route.
     fn print_route(&mut self, router: usize, prefix: Prefix, route: Route) -> io::Result<()> {
         let (name, metric, tag) = (self.names.of(router), route.metric(), route.tag());
         write!(self.out, "{name} {prefix} metric {metric} tag {tag} ")?;
@@ -158,7 +157,6 @@ impl<'a, W: Write> Printer<'a, W> {
         Ok(())
     }
 
-    /// Writes the lines of a way.
     fn print_way(&mut self, way: &Way) -> io::Result<()> {
         let (from, addr) = (self.names.of(way.router), way.addr);
         write!(self.out, "{from} {addr} path {from}")?;
@@ -308,13 +306,12 @@ impl<'a> fmt::Display for Named<'a> {
 /// # Errors
 /// Out of memory.
 pub fn names_of<'a>(alloc: Global, script: &'a [u8]) -> Result<Vec<&'a str>, AllocError> {
-    let mut names = Vec::new(alloc);
-    for line in script.split(|byte| *byte == b'\n') {
-        let words = words_in(line);
-        if first_word(words) == "router" {
-            let name = words.rsplit_once(' ').map_or("", |(_, name)| name);
-            names.push(if name == "quiet" { "" } else { name })?;
-        }
-    }
-    Ok(names)
+    let lines = script
+        .split(|byte| *byte == b'\n')
+        .map(|line| words_in(line));
+    lines
+        .filter(|words| first_word(*words) == "router")
+        .map(|words| words.rsplit_once(' ').map_or("", |(_, name)| name))
+        .map(|name| if name == "quiet" { "" } else { name })
+        .collect(alloc)
 }

@@ -183,7 +183,6 @@ impl Session {
         }
     }
 
-    /// A line that lists a router, or what one has.
     fn list(&mut self, alloc: Global, line: &Line<'_>) -> Outcome
         ensures { self.new.course ≡ self.old.course }
     {
