@@ -319,6 +319,10 @@ pub given_ok : {X E P : Type 0} (r : Result X E) → P → OnOk r P
 given_ok (Ok x) p = p
 given_ok (Err e) p = tt
 
+pub given_err : {X E P : Type 0} (r : Result X E) → P → OnErr r P
+given_err (Ok x) p = tt
+given_err (Err e) p = p
+
 -- what holds of a result that is there
 pub on_ok : {X E P : Type 0} (r : Result X E) (x : X) → r ≡ Ok x → OnOk r P → P
 on_ok {X} {E} {P} r x is given = subst (λ (q : Result X E). OnOk q P) is given

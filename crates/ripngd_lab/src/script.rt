@@ -1,6 +1,6 @@
 //! A script, line by line: its routers are listed until they start, and then live in a network.
 
-ghost use Rattle.std.specs.Prelude.{◌<◌, ◌≡◌, IfSome, None, OnErr, OnOk, Option, length};
+ghost use Rattle.std.specs.Prelude.{◌≡◌, None, OnErr, OnOk, Option};
 ghost use Rattle.ripngd_lab.specs.Common.{LabValue, HasTold, IsToldOfLab, IsToldUntil, lab_in};
 
 use crate::course::check_named;
@@ -40,11 +40,9 @@ pub fn watched<V: Watch>(alloc: Global, script: &[u8], watch: &mut V) -> io::Res
     ensures told_until { OnErr result ((end : Option LabValue) × IsToldUntil V.starts V.takes V.fails V.notes (None, watch.old) (end, watch.new)) }
 {
     let mut session = Session::new(alloc);
-    let (mut number, mut rest) = (0_usize, Some(script));
-    while let Some(text) = rest {
-        let (line, after) = first_line(text);
-        rest = after;
-        number = number.saturating_add(1);
+    let lines: Vec<&[u8]> = script.split(|byte| *byte == b'\n').collect(alloc)?;
+    for (place, line) in lines.iter().enumerate() {
+        let number = place.saturating_add(1);
         watch.at_line(number);
         match run_line(alloc, &mut session, line, watch) {
             Ok(()) => {}
@@ -60,16 +58,6 @@ pub fn watched<V: Watch>(alloc: Global, script: &[u8], watch: &mut V) -> io::Res
         }
     }
     Ok(true)
-}
-
-/// The first line of a text, without its line feed, and what comes after that, if it has one.
-fn first_line(text: &[u8]) -> (&[u8], Option<&[u8]>)
-    ensures { IfSome result.1 (λ after. length after.now < length text.now) }
-{
-    match text.iter().position(|byte| *byte == b'\n') {
-        Some(end) => (&text[..end], Some(&text[end + 1..])),
-        None => (text, None),
-    }
 }
 
 /// The words of a line, without the blanks around them and without a remark; of `say` all but a carriage return at its end.

@@ -1,20 +1,26 @@
-use Rattle.std.proofs.Common.{None, false, true, ap}
-use Rattle.ripngd_lab.specs.ScriptWatching.{is_failure, lab_in}
-use Rattle.ripngd_lab.proofs.ScriptWatching.{told_on, noted_on, turned_on, line_ends, on_fault}
+use Rattle.std.proofs.Common.{Option, None, false, true, ap}
+use Rattle.ripng_world.specs.Labs.{LabValue}
+use Rattle.ripngd_lab.specs.ScriptWatching.{IsToldUntil, is_failure, lab_in}
+use Rattle.ripngd_lab.proofs.ScriptWatching.{given_err, line_ends, noted_on, on_fault, told_on, told_until, turned_on, untold}
 use Rattle.ripngd_lab.proofs.script.watched.Goals as goal
 
-pub loop-rest-preserved : goal.loop-rest-preserved
-loop-rest-preserved g c =
-    told_on g.V.Watch.starts g.V.Observer.takes g.V.Observer.fails g.V.Watch.notes (None, c.args.watch.now) (lab_in c.loop-rest.session.course, c.at_line.new.self) (lab_in c.run_line.new.session.course, c.run_line.new.watch)
-    (turned_on g.V.Watch.starts g.V.Observer.takes g.V.Observer.fails g.V.Watch.notes (None, c.args.watch.now) (lab_in c.loop-rest.session.course) c.loop-rest.watch c.at_line.new.self _ c.loop-rest.invariant c.at_line.ensures)
+pub returns-in_err-lines-clause-told_until : goal.returns-in_err-lines-clause-told_until
+returns-in_err-lines-clause-told_until g c =
+    given_err {P = (end : Option LabValue) × IsToldUntil g.V.Watch.starts g.V.Observer.takes g.V.Observer.fails g.V.Watch.notes (None, c.args.watch.now) (end, c.args.watch.now)} c.from_residual.result
+    (None, told_until g.V.Watch.starts g.V.Observer.takes g.V.Observer.fails g.V.Watch.notes (None, c.args.watch.now) (None, c.args.watch.now) (untold g.V.Watch.starts g.V.Observer.takes g.V.Observer.fails g.V.Watch.notes (None, c.args.watch.now)))
+
+pub loop-place-preserved : goal.loop-place-preserved
+loop-place-preserved g c =
+    told_on g.V.Watch.starts g.V.Observer.takes g.V.Observer.fails g.V.Watch.notes (None, c.args.watch.now) (lab_in c.loop-place.session.course, c.at_line.new.self) (lab_in c.run_line.new.session.course, c.run_line.new.watch)
+    (turned_on g.V.Watch.starts g.V.Observer.takes g.V.Observer.fails g.V.Watch.notes (None, c.args.watch.now) (lab_in c.loop-place.session.course) c.loop-place.watch c.at_line.new.self _ c.loop-place.invariant c.at_line.ensures)
     c.in-Ok.ensures
 
 pub returns-in_err-noticed-in-Err-Refused-clause-told_until :
     goal.returns-in_err-noticed-in-Err-Refused-clause-told_until
 returns-in_err-noticed-in-Err-Refused-clause-told_until g c =
-    on_fault g.V.Watch.starts g.V.Observer.takes g.V.Observer.fails g.V.Watch.notes c.from_residual.result (None, c.args.watch.now) (lab_in c.run_line.new.session.course) c.run_line.new.watch c.noticed.new.self
-    (line_ends g.V.Watch.starts g.V.Observer.takes g.V.Observer.fails g.V.Watch.notes false c.in-Err-Refused.field-0 (None, c.args.watch.now) (lab_in c.loop-rest.session.course, c.at_line.new.self) (lab_in c.run_line.new.session.course, c.run_line.new.watch) (ap is_failure c.in-Err-Refused.field-0-is)
-    (turned_on g.V.Watch.starts g.V.Observer.takes g.V.Observer.fails g.V.Watch.notes (None, c.args.watch.now) (lab_in c.loop-rest.session.course) c.loop-rest.watch c.at_line.new.self _ c.loop-rest.invariant c.at_line.ensures)
+    on_fault g.V.Watch.starts g.V.Observer.takes g.V.Observer.fails g.V.Watch.notes c.from_residual-in_err-noticed-in-Err-Refused.result (None, c.args.watch.now) (lab_in c.run_line.new.session.course) c.run_line.new.watch c.noticed.new.self
+    (line_ends g.V.Watch.starts g.V.Observer.takes g.V.Observer.fails g.V.Watch.notes false c.in-Err-Refused.field-0 (None, c.args.watch.now) (lab_in c.loop-place.session.course, c.at_line.new.self) (lab_in c.run_line.new.session.course, c.run_line.new.watch) (ap is_failure c.in-Err-Refused.field-0-is)
+    (turned_on g.V.Watch.starts g.V.Observer.takes g.V.Observer.fails g.V.Watch.notes (None, c.args.watch.now) (lab_in c.loop-place.session.course) c.loop-place.watch c.at_line.new.self _ c.loop-place.invariant c.at_line.ensures)
     c.in-Err-Refused.ensures)
     c.in_err-noticed-in-Err-Refused.ensures.broken
 
@@ -22,8 +28,8 @@ pub returns-in-Err-Refused-clause-told : goal.returns-in-Err-Refused-clause-told
 returns-in-Err-Refused-clause-told g c = (
   lab_in c.run_line.new.session.course,
   noted_on g.V.Watch.starts g.V.Observer.takes g.V.Observer.fails g.V.Watch.notes (None, c.args.watch.now) (lab_in c.run_line.new.session.course) c.run_line.new.watch c.noticed.new.self
-      (line_ends g.V.Watch.starts g.V.Observer.takes g.V.Observer.fails g.V.Watch.notes false c.in-Err-Refused.field-0 (None, c.args.watch.now) (lab_in c.loop-rest.session.course, c.at_line.new.self) (lab_in c.run_line.new.session.course, c.run_line.new.watch) (ap is_failure c.in-Err-Refused.field-0-is)
-      (turned_on g.V.Watch.starts g.V.Observer.takes g.V.Observer.fails g.V.Watch.notes (None, c.args.watch.now) (lab_in c.loop-rest.session.course) c.loop-rest.watch c.at_line.new.self _ c.loop-rest.invariant c.at_line.ensures)
+      (line_ends g.V.Watch.starts g.V.Observer.takes g.V.Observer.fails g.V.Watch.notes false c.in-Err-Refused.field-0 (None, c.args.watch.now) (lab_in c.loop-place.session.course, c.at_line.new.self) (lab_in c.run_line.new.session.course, c.run_line.new.watch) (ap is_failure c.in-Err-Refused.field-0-is)
+      (turned_on g.V.Watch.starts g.V.Observer.takes g.V.Observer.fails g.V.Watch.notes (None, c.args.watch.now) (lab_in c.loop-place.session.course) c.loop-place.watch c.at_line.new.self _ c.loop-place.invariant c.at_line.ensures)
       c.in-Err-Refused.ensures)
       c.in_ok-noticed-in-Err-Refused.ensures.notes,
 )
@@ -32,8 +38,8 @@ pub returns-in_err-noticed-in-Err-Unmet-clause-told_until :
     goal.returns-in_err-noticed-in-Err-Unmet-clause-told_until
 returns-in_err-noticed-in-Err-Unmet-clause-told_until g c =
     on_fault g.V.Watch.starts g.V.Observer.takes g.V.Observer.fails g.V.Watch.notes c.from_residual-in_err-noticed-in-Err-Unmet.result (None, c.args.watch.now) (lab_in c.run_line.new.session.course) c.run_line.new.watch c.noticed-in-Err-Unmet.new.self
-    (line_ends g.V.Watch.starts g.V.Observer.takes g.V.Observer.fails g.V.Watch.notes false c.in-Err-Unmet.field-0 (None, c.args.watch.now) (lab_in c.loop-rest.session.course, c.at_line.new.self) (lab_in c.run_line.new.session.course, c.run_line.new.watch) (ap is_failure c.in-Err-Unmet.field-0-is)
-    (turned_on g.V.Watch.starts g.V.Observer.takes g.V.Observer.fails g.V.Watch.notes (None, c.args.watch.now) (lab_in c.loop-rest.session.course) c.loop-rest.watch c.at_line.new.self _ c.loop-rest.invariant c.at_line.ensures)
+    (line_ends g.V.Watch.starts g.V.Observer.takes g.V.Observer.fails g.V.Watch.notes false c.in-Err-Unmet.field-0 (None, c.args.watch.now) (lab_in c.loop-place.session.course, c.at_line.new.self) (lab_in c.run_line.new.session.course, c.run_line.new.watch) (ap is_failure c.in-Err-Unmet.field-0-is)
+    (turned_on g.V.Watch.starts g.V.Observer.takes g.V.Observer.fails g.V.Watch.notes (None, c.args.watch.now) (lab_in c.loop-place.session.course) c.loop-place.watch c.at_line.new.self _ c.loop-place.invariant c.at_line.ensures)
     c.in-Err-Unmet.ensures)
     c.in_err-noticed-in-Err-Unmet.ensures.broken
 
@@ -41,8 +47,8 @@ pub returns-in-Err-Unmet-clause-told : goal.returns-in-Err-Unmet-clause-told
 returns-in-Err-Unmet-clause-told g c = (
   lab_in c.run_line.new.session.course,
   noted_on g.V.Watch.starts g.V.Observer.takes g.V.Observer.fails g.V.Watch.notes (None, c.args.watch.now) (lab_in c.run_line.new.session.course) c.run_line.new.watch c.noticed-in-Err-Unmet.new.self
-      (line_ends g.V.Watch.starts g.V.Observer.takes g.V.Observer.fails g.V.Watch.notes false c.in-Err-Unmet.field-0 (None, c.args.watch.now) (lab_in c.loop-rest.session.course, c.at_line.new.self) (lab_in c.run_line.new.session.course, c.run_line.new.watch) (ap is_failure c.in-Err-Unmet.field-0-is)
-      (turned_on g.V.Watch.starts g.V.Observer.takes g.V.Observer.fails g.V.Watch.notes (None, c.args.watch.now) (lab_in c.loop-rest.session.course) c.loop-rest.watch c.at_line.new.self _ c.loop-rest.invariant c.at_line.ensures)
+      (line_ends g.V.Watch.starts g.V.Observer.takes g.V.Observer.fails g.V.Watch.notes false c.in-Err-Unmet.field-0 (None, c.args.watch.now) (lab_in c.loop-place.session.course, c.at_line.new.self) (lab_in c.run_line.new.session.course, c.run_line.new.watch) (ap is_failure c.in-Err-Unmet.field-0-is)
+      (turned_on g.V.Watch.starts g.V.Observer.takes g.V.Observer.fails g.V.Watch.notes (None, c.args.watch.now) (lab_in c.loop-place.session.course) c.loop-place.watch c.at_line.new.self _ c.loop-place.invariant c.at_line.ensures)
       c.in-Err-Unmet.ensures)
       c.in_ok-noticed-in-Err-Unmet.ensures.notes,
 )
@@ -50,7 +56,7 @@ returns-in-Err-Unmet-clause-told g c = (
 pub returns-in-Err-Failed-clause-told_until : goal.returns-in-Err-Failed-clause-told_until
 returns-in-Err-Failed-clause-told_until g c = (
   lab_in c.run_line.new.session.course,
-  (line_ends g.V.Watch.starts g.V.Observer.takes g.V.Observer.fails g.V.Watch.notes true c.in-Err-Failed.field-0 (None, c.args.watch.now) (lab_in c.loop-rest.session.course, c.at_line.new.self) (lab_in c.run_line.new.session.course, c.run_line.new.watch) (ap is_failure c.in-Err-Failed.field-0-is)
-      (turned_on g.V.Watch.starts g.V.Observer.takes g.V.Observer.fails g.V.Watch.notes (None, c.args.watch.now) (lab_in c.loop-rest.session.course) c.loop-rest.watch c.at_line.new.self _ c.loop-rest.invariant c.at_line.ensures)
+  (line_ends g.V.Watch.starts g.V.Observer.takes g.V.Observer.fails g.V.Watch.notes true c.in-Err-Failed.field-0 (None, c.args.watch.now) (lab_in c.loop-place.session.course, c.at_line.new.self) (lab_in c.run_line.new.session.course, c.run_line.new.watch) (ap is_failure c.in-Err-Failed.field-0-is)
+      (turned_on g.V.Watch.starts g.V.Observer.takes g.V.Observer.fails g.V.Watch.notes (None, c.args.watch.now) (lab_in c.loop-place.session.course) c.loop-place.watch c.at_line.new.self _ c.loop-place.invariant c.at_line.ensures)
       c.in-Err-Failed.ensures),
 )
