@@ -239,7 +239,6 @@ impl Course {
         }))
     }
 
-    /// A router is silent from now on, or no longer.
     fn set_silent(&mut self, router: usize, silent: bool) -> Outcome
         ensures there { OnOk result (router < length (value_of self.old.site).network) }
         ensures set { OnOk result (self.new.outages.silent.items ≡ with_member silent router self.old.outages.silent.items) }
@@ -251,7 +250,6 @@ impl Course {
         Ok(set_member(&mut self.outages.silent, router, silent)?)
     }
 
-    /// A link is cut from now on, or no longer.
     fn set_cut(&mut self, line: &Line<'_>, cut: bool) -> Outcome
         ensures set { OnOk result (self.new.outages.cut.items ≡ with_member cut line.entry.now.link self.old.outages.cut.items) }
         ensures site { self.new.site ≡ self.old.site }
@@ -263,8 +261,7 @@ impl Course {
     /// An event at each interface on the link of a line, by router and interface; `NoSuchLink` if none is on it.
     fn events_at(&self, kind: Step, line: &Line<'_>) -> Result<Vec<Event<'static>>, Stop> {
         let lab = self.site.running();
-        let places = 0..lab.routers().saturating_mul(INTERFACE_LIMIT);
-        let events: Vec<Event<'static>> = places
+        let events: Vec<Event<'static>> = (0..lab.routers().saturating_mul(INTERFACE_LIMIT))
             .map(|place| (place / INTERFACE_LIMIT, place % INTERFACE_LIMIT))
             .filter(|(router, iface)| lab.link(*router, *iface) == Some(line.link))
             .map(|(router, iface)| line.event(kind, router, iface))

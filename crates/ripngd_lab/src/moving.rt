@@ -152,9 +152,8 @@ impl Course {
         }
         for (round, now) in moments.iter().enumerate() {
             let wave = Wave {
-                ticking: Ticking::Due { round },
                 moment: *now,
-                lost: "",
+                ..line.wave(Ticking::Due { round })
             };
             self.make_wave(&wave, watch)?;
         }

@@ -143,8 +143,7 @@ impl<'a> Wave<'a> {
         let Some(sent) = lab.sent().get(datagram).filter(|_| !gone) else {
             return Ok(Vec::new(course.alloc));
         };
-        let places = 0..lab.routers().saturating_mul(INTERFACE_LIMIT);
-        places
+        (0..lab.routers().saturating_mul(INTERFACE_LIMIT))
             .map(|place| (place / INTERFACE_LIMIT, place % INTERFACE_LIMIT))
             .filter(|(router, iface)| reaches(lab, outages, sent, *router, *iface))
             .map(|(router, iface)| Event::Deliver {

@@ -83,8 +83,7 @@ fn run_line<V: Watch>(alloc: Global, session: &mut Session, line: &[u8], watch: 
     if line.starts_with(b"#") {
         return Ok(());
     }
-    let text = str::from_utf8(line).map_err(|_| BadLine::NoText)?;
-    let words = words_of(text);
+    let words = words_of(str::from_utf8(line).map_err(|_| BadLine::NoText)?);
     if words.is_empty() {
         return Ok(());
     }
@@ -122,7 +121,6 @@ impl Session {
         }
     }
 
-    /// Reads the words of the next line.
     fn read<'a>(&mut self, words: &'a str) -> Result<Line<'a>, BadLine>
         ensures { self.new.course ≡ self.old.course }
     {
@@ -258,16 +256,12 @@ pub fn list(alloc: Global, nodes: &mut Vec<Node>, line: &Line<'_>) -> Outcome {
             let (addr, cost, mtu, link) = (line.addr, line.cost, line.mtu, line.link);
             let interface = Interface { addr, cost, mtu };
             let interface = NetInterface { interface, link };
-            Ok(newest(nodes)?.interfaces.push(interface)?)
+            let node = nodes.last_mut().ok_or(BadLine::NoRouter)?;
+            Ok(node.interfaces.push(interface)?)
         }
-        Verb::Prefixes => own(newest(nodes)?, line),
+        Verb::Prefixes => own(nodes.last_mut().ok_or(BadLine::NoRouter)?, line),
         _ => Ok(()),
     }
-}
-
-/// The router that is being listed.
-fn newest(nodes: &mut [Node]) -> Result<&mut Node, BadLine> {
-    nodes.last_mut().ok_or(BadLine::NoRouter)
 }
 
 /// A router owns a row of as many prefixes as a line says.
