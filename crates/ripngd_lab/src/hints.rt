@@ -158,7 +158,6 @@ fn nearest(alloc: Global, word: &str) -> Result<Option<&'static str>, AllocError
     Ok(near)
 }
 
-/// How many there are to be named.
 fn counted(alloc: Global, count: usize, what: &str) -> Hint {
     match count.checked_sub(1) {
         Some(last) => format!(in alloc; "there are {count} {what}, from 0 to {last}"),

@@ -14,7 +14,6 @@ use route_table::{INFINITY, Moment};
 use router_core::{Arrival, Change, MAX_HOP_LIMIT, OWNED_LIMIT, RIPNG_PORT};
 use std::alloc::{AllocError, Global};
 
-/// The most rounds of one line.
 const ROUNDS_LIMIT: usize = 1000;
 
 /// The MTU of an interface whose line has none, in bytes: that of an Ethernet.
@@ -79,7 +78,6 @@ pub fn read_line<'a>(text: &'a str, context: &mut Context) -> Result<Line<'a>, B
 }
 
 impl<'a> Line<'a> {
-    /// No word was read yet.
     fn new(verb: Verb, context: &Context) -> Line<'a> {
         Line {
             verb,

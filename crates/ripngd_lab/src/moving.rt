@@ -20,7 +20,6 @@ use std::{fmt, io};
 /// The most phases of one line.
 pub const PHASES_LIMIT: usize = 1000;
 
-/// How long a phase takes, in milliseconds.
 const PHASE_MS: u64 = 60_000;
 
 /// What became of a line of phases.

@@ -166,8 +166,7 @@ fn reaches(lab: &Network, outages: &Outages, sent: &Sent, router: usize, iface: 
         return false;
     };
     let is_other = own == link && !(router == sent.router && iface == sent.iface);
-    let silent = &outages.silent;
-    let is_silent = silent.contains(&sent.router) || silent.contains(&router);
+    let is_silent = outages.silent.contains(&sent.router) || outages.silent.contains(&router);
     if !is_other || is_silent || outages.cut.contains(&usize::from(own)) {
         return false;
     }

@@ -1,4 +1,4 @@
-use Rattle.std.proofs.Common.{Err, Ok, ap, ◌∙◌}
+use Rattle.std.proofs.Common.{Err, ap, ◌∙◌}
 use Rattle.ripngd_lab.specs.ScriptWatching.{lab_in}
 use Rattle.ripngd_lab.proofs.ScriptWatching.{untold_as}
 use Rattle.ripngd_lab.proofs.script.Session.obey.Goals as goal

@@ -1,4 +1,4 @@
-use Rattle.std.proofs.Common.{◌≡◌, ◌∙◌, rules, ℕ, Option, Some, None, Err, Bool, true, false, is_some, refl, subst, sym}
+use Rattle.std.proofs.Common.{◌≡◌, ◌∙◌, rules, ℕ, Option, Some, None, Err, true, false, is_some, refl, subst, sym}
 use Rattle.std.specs.Prelude.{zero, suc, replicate}
 use Rattle.std.specs.List.{AllByRecursion}
 use Rattle.ripng_world.specs.Labs.{LabValue}
