@@ -43,10 +43,8 @@ impl Course {
         ensures same { self.new ≡ record self.old { moment = self.new.moment } }
     {
         let later = self.moment.later(by_ms).ms();
-        if later < self.end {
-            if let Some(moment) = Moment::new(later) {
-                self.moment = moment;
-            }
+        if let Some(moment) = Moment::new(later).filter(|_| later < self.end) {
+            self.moment = moment;
         }
     }
 

@@ -63,10 +63,7 @@ pub fn file(sent: &mut Vec<Sent>, router: usize, sends: Listed<Outgoing>)
 }
 
 impl<S: RouteStore> Station<S> {
-    /// The router of a network starts.
-    ///
-    /// # Errors
-    /// Out of memory, and no other.
+    /// The router of a network starts, or memory is refused.
     pub fn start(
         alloc: Global,
         router: NetRouter,
@@ -119,10 +116,8 @@ impl<S: RouteStore> Station<S> {
         }
     }
 
-    /// An event happens at the router. A delivery brings one of the datagrams that were sent, from that address.
-    ///
-    /// # Errors
-    /// Why the router refuses a change of its configuration, else out of memory; the router is then unchanged.
+    /// An event happens at the router. A delivery brings one of the datagrams that were sent, from that address. A change of the
+    /// configuration may be refused, else only memory; the router is then unchanged.
     pub fn happen(
         &mut self,
         event: &Event<'_>,

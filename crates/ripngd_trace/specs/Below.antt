@@ -20,7 +20,7 @@ pub use Rattle.route_table.specs.Table.{Table, ByPrefix}
 pub use Rattle.route_table.specs.declared.route.Origin.{Origin}
 pub use Rattle.router_core.specs.Adoption.{reason_name, adopted, metric_through, reason}
 pub use Rattle.router_core.specs.Ageing.{aged_table}
-pub use Rattle.router_core.specs.Faults.{fault_name, fault_number, ripng_port}
+pub use Rattle.router_core.specs.Faults.{fault_name, fault_number}
 pub use Rattle.router_core.specs.Machine.{State, is_regular_due, is_triggered_due}
 pub use Rattle.router_core.specs.Offering.{Brings, Offered}
 pub use Rattle.router_core.specs.Offers.{note_name, note_number}
@@ -38,7 +38,7 @@ pub use Rattle.ripng_world.specs.Labs.{LabValue, link_at}
 pub use Rattle.ripng_world.specs.Lying.{Lies}
 pub use Rattle.ripng_world.specs.Rounds.{moment_of, router_of}
 pub use Rattle.ripng_world.specs.Watching.{Told, telling}
-pub use Rattle.ripng_world.specs.World.{Event, Deliver, Stranger, Tick, Restart, Shutdown, LinkDown, LinkUp, Reconfigure, World, Happens, is_to_group}
+pub use Rattle.ripng_world.specs.World.{Event, Deliver, Stranger, Tick, Restart, Shutdown, LinkDown, LinkUp, Reconfigure, World, Happens, arrival_from}
 pub use Rattle.ripng_world.specs.declared.event.Sent.{Sent}
 pub use Rattle.ripngd_lab.specs.Asides.{Aside, NextLine, CountsPhases, Lie, Broken}
 pub use Rattle.ripngd_lab.specs.Plans.{addr_at}

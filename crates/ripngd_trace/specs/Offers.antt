@@ -1,20 +1,11 @@
 -- What the record of an event says of offers: what each was, and which row of the table of adoption it fell under.
 use Rattle.std.specs.Prelude.{◌≡◌, ℕ, ◌<◌, ◌==◌, ◌&&◌, not, Bool, if◌then◌else◌, List, [], length, map, take, filter, fold, Option, Some, unwrap_or, slice_get}
-use Rattle.ripngd_trace.specs.Below.{enumerate_from, list_any, Prefix6, same_prefix, RouteValue, Table, adopted, metric_through, reason, ripng_port, State, Brings, Offered, Received, Note, LabValue, Event, Deliver, is_to_group, Sent, addr_at, KnownRouter, OfferRecord}
+use Rattle.ripngd_trace.specs.Below.{enumerate_from, list_any, Prefix6, same_prefix, RouteValue, Table, adopted, metric_through, reason, State, Brings, Offered, Received, Note, LabValue, Event, Deliver, arrival_from, Sent, addr_at, KnownRouter, OfferRecord}
 use Rattle.std.specs.FinMap as map_of
 
 -- a datagram of the network as it comes to an interface of its link
 abbrev pub came : LabValue → Sent → ℕ → ℕ → Received
-came lab d iface now =
-    record {
-      now = now;
-      iface = iface;
-      source = unwrap_or (addr_at lab d.router d.iface) 0;
-      source_port = ripng_port;
-      hop_limit = 255;
-      to_group = is_to_group d.to;
-      bytes = d.bytes;
-    }
+came lab d iface now = arrival_from (unwrap_or (addr_at lab d.router d.iface) 0) d iface now
 
 -- one of the notes is of that entry
 abbrev pub is_noted : List Note → ℕ → Bool

@@ -12,7 +12,7 @@ use prefix6::{Addr6, Prefix};
 use ripng_world::{Event, Sent};
 use ripngd_lab::{Names, Network, Routes, addr_at};
 use route_table::{Moment, Route, RouteStore};
-use router_core::{Answer, Arrival, Destination, MAX_HOP_LIMIT, Note, Offered, RIPNG_PORT, Router};
+use router_core::{Answer, Note, Offered, Router};
 use std::alloc::{AllocError, Global};
 
 /// A router as a reader of the records knows it.
@@ -336,15 +336,8 @@ fn offers_of(
         && let Some(sent) = lab.sent().get(datagram)
         && iface < moved.config().interfaces().len()
     {
-        let arrival = Arrival {
-            now,
-            iface,
-            source: addr_at(lab, sent.router, sent.iface).unwrap_or(Addr6::from_bits(0)),
-            source_port: RIPNG_PORT,
-            hop_limit: MAX_HOP_LIMIT,
-            to_group: matches!(sent.to, Destination::Group),
-            bytes: sent.bytes.as_slice(),
-        };
+        let source = addr_at(lab, sent.router, sent.iface).unwrap_or(Addr6::from_bits(0));
+        let arrival = sent.arrival(source, iface, now);
         let offers = moved.offers(&arrival)?;
         let notes = answer.notes.as_slice();
         return offer_records(alloc, &known.table, notes, offers.as_slice());
