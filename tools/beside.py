@@ -4,14 +4,15 @@
     tools/beside.py [PROGRAM [ROUTES [TIMES]]]        bin/ripngd, 65536 routes and 3 times if they are not named
 
 One neighbor, which is this script, talks to each daemon by itself, one daemon after the other, TIMES over: to PROGRAM over UDP on
-127.0.0.1, to BIRD over a pair of virtual interfaces between two name spaces. It advertises ROUTES routes of metric 1, 72 in a
-datagram, and advertises them again, at 1 and at 0.5 ms between datagrams, in order and in an order of its own that is the same for
-both. Of each daemon it prints what a route cost in microseconds of processor time (as the scheduler counts it) and in bytes of memory,
-in the middle of all runs, and the ratio of the two daemons in each run. The peak is the most that was resident until the end of a
-regular update on two interfaces, on one of which nobody listens; it is a run of its own. Idle is a daemon that nobody talks to, at one
-interface and at sixteen, the most that PROGRAM may have. Meanwhile each processor is kept awake by work that gives way to all other:
-else much of a row is what it takes to wake one, which is the machine's. Needs root, `ip` and BIRD 2 (Debian's packages iproute2 and
-bird2); where one is wanting it says `skipped: ..`. A round takes some ten minutes: regular updates are up to 45 seconds apart."""
+127.0.0.1, to BIRD over a pair of virtual interfaces between two name spaces. It advertises ROUTES routes of metric 1, 72 in a datagram, and
+advertises them again, at 1 and at 0.5 ms between datagrams, in order and in an order of its own that is the same for both. Of each daemon
+it prints what a route cost in microseconds of processor time (as the scheduler counts it) and in bytes of memory, in the middle of all
+runs, and the ratio of the two daemons in each run. The peak is the most that was resident until the end of a regular update on two
+interfaces, on one of which nobody listens; it is a run of its own. What is told is in the middle of at least three updates of each run.
+Idle is a daemon that nobody talks to, at one interface and at sixteen, the most that PROGRAM may have. Meanwhile each processor is kept
+awake by work that gives way to all other: else much of a row is what it takes to wake one, which is the machine's. Needs root, `ip` and
+BIRD 2 (Debian's packages iproute2 and bird2); where one is wanting it says `skipped: ..`. A round takes some ten minutes: regular updates
+are up to 45 seconds apart."""
 
 import contextlib
 import os
@@ -74,7 +75,7 @@ class Neighbor:
     """The neighbor of a daemon: a socket, where it sends to, and the process whose cost is asked for."""
 
     def __init__(self, sock, to, pid):
-        self.sock, self.to, self.pid, self.told, self.heard_at = sock, to, pid, 0, 0.0
+        self.sock, self.to, self.pid, self.told, self.heard_at, self.updates = sock, to, pid, 0, 0.0, []
         sock.setsockopt(socket.SOL_SOCKET, 33, 1 << 25)  # SO_RCVBUFFORCE
         sock.setblocking(False)
 
@@ -128,7 +129,7 @@ class Neighbor:
             self.listen()
 
     def update(self, routes):
-        """Waits for an update of all routes, and answers what it cost."""
+        """Waits for an update of all routes, and notes what it cost."""
         before, ends = self.cost(), time.monotonic() + 120
         while time.monotonic() < ends:
             self.told = 0
@@ -138,7 +139,8 @@ class Neighbor:
                 self.listen()
             self.until_quiet(PAST)
             if self.told * 100 >= routes * HELD:
-                return self.cost() - before
+                self.updates.append(self.cost() - before)
+                return
         raise RuntimeError(f"it tells {self.told} routes of {routes}")
 
 
@@ -151,7 +153,8 @@ def costs(neighbor, routes, is_random=False):
     found["at_rest"] = (neighbor.memory() - empty) / routes
     found["refreshed"] = neighbor.refreshes(datagrams) / each
     found["refreshed_soon"] = neighbor.refreshes(datagrams, SHORT_PAUSE) / each
-    found["told"] = neighbor.update(routes) / each
+    neighbor.update(routes)
+    found["told"] = statistics.median(neighbor.updates) / each
     found["after"] = (neighbor.memory() - empty) / routes
     return found
 

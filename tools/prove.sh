@@ -11,30 +11,42 @@ set -eu
 cd "$(dirname "$0")/.."
 way=below
 program=
+room=$(mktemp -d)
+trap 'rm -rf "$room"' EXIT
+folder=$room/all
 if [ "${1:-}" = --libraries ]; then
     crate=$2
     folder=$(realpath -m "$3")
-    mkdir "$folder"
+elif [ "${1:-}" = --above ]; then
+    way=around
+    crate=$2
 else
-    if [ "${1:-}" = --above ]; then
-        way=around
-        crate=$2
-    else
-        crate=${1:-ripngd_program}
-        program=$(realpath -m "${2:-bin/ripngd}")
-    fi
-    folder=$(mktemp -d)
-    trap 'rm -rf "$folder"' EXIT
+    crate=${1:-ripngd_program}
+    program=$(realpath -m "${2:-bin/ripngd}")
 fi
 
-mkdir "$folder/crates"
-cp HANDLES "$folder"
-for name in $(tools/crates.py "$way" "$crate"); do
-    grep -E "^$name( staticlib)?:" crates.txt >> "$folder/crates.txt"
-    mkdir "$folder/crates/$name"
-    find "crates/$name" -mindepth 1 -maxdepth 1 ! -name out ! -name must-fail -exec cp -r -t "$folder/crates/$name" {} +
-done
-(cd "$folder" && git init -q && rt ci) || { echo "$crate is not proved" >&2; exit 1; }
+# `copy FOLDER WAY CRATE`: leaves these crates in a new folder.
+copy() {
+    mkdir "$1" "$1/crates"
+    cp HANDLES "$1"
+    for name in $(tools/crates.py "$2" "$3"); do
+        grep -E "^$name( staticlib)?:" crates.txt >> "$1/crates.txt"
+        mkdir "$1/crates/$name"
+        find "crates/$name" -mindepth 1 -maxdepth 1 ! -name out ! -name must-fail -exec cp -r -t "$1/crates/$name" {} +
+    done
+    git -C "$1" init -q
+}
+
+copy "$folder" "$way" "$crate"
+if [ "$crate" = ripngd_program ]; then
+    # The crates up to the trace stand one on another and take longest, so a run of their own gives each of them all processors. The
+    # daemon's are proved beside them by what these leave free. The kit keeps what both prove for the last run.
+    copy "$room/daemon" below ripngd_daemon
+    (cd "$room/daemon" && exec nice -n 19 rt ci > /dev/null 2>&1) &
+    (cd "$folder" && rt ci ripngd_trace) || true
+    wait
+fi
+(cd "$folder" && rt ci) || { echo "$crate is not proved" >&2; exit 1; }
 if [ "$program" ]; then
     mkdir -p "$(dirname "$program")"
     cp "$folder/crates/$crate/out/$crate" "$program"
