@@ -73,11 +73,7 @@ fn due_moment<S: RouteStore>(lab: &Lab<S>, course: &Course, router: usize) -> Op
         → (course.now.end ≤ state.regular) ⊎ (2 ^ 60 < state.regular) }
 {
     let due = lab.router(router)?.regular().ms().max(course.moment.ms());
-    if due < course.end {
-        Moment::new(due)
-    } else {
-        None
-    }
+    Moment::new(due).filter(|_| due < course.end)
 }
 
 /// Each router that has not sent its regular update sends it, as soon as it is due.

@@ -80,11 +80,8 @@ impl<S: RouteStore> Running<S> {
     fn check_router(&self, router: usize) -> Result<(), LabError>
         ensures { result_err result ≡ first_reason (missing_router_reasons self.now.network router) }
     {
-        if router < self.routers() {
-            Ok(())
-        } else {
-            Err(LabError::NoSuchRouter)
-        }
+        let station = self.stations.get(router).map(|_| ());
+        station.ok_or(LabError::NoSuchRouter)
     }
 
     /// The link of an interface, if there is such a router and interface.

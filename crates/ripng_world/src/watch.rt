@@ -71,10 +71,7 @@ impl<R: Drop, F> Stopped<R, F> {
     pub fn failures(&self) -> usize
         ensures { result ≡ failures self.now }
     {
-        match self {
-            Stopped::Refused(_) => 0,
-            Stopped::Failed(_) => 1,
-        }
+        usize::from(matches!(self, Stopped::Failed(_)))
     }
 
     /// The same with another refusal, if it is one.

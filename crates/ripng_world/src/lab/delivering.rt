@@ -25,12 +25,8 @@ impl<S: RouteStore> Running<S> {
         ensures { result ≡ is_other self.now.network datagram.now (router, iface) }
     {
         let own = self.link(datagram.router, datagram.iface);
-        match (own, self.link(router, iface)) {
-            (Some(own), Some(link)) => {
-                own == link && !(router == datagram.router && iface == datagram.iface)
-            }
-            _ => false,
-        }
+        let is_sender = router == datagram.router && iface == datagram.iface;
+        own.is_some() && own == self.link(router, iface) && !is_sender
     }
 
     /// The other interfaces of a datagram's link, each after its router's number, in order: where it may come.
