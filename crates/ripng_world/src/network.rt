@@ -118,13 +118,6 @@ impl Model for NetConfig {
     ghost invariant = { λ n. IsNetwork n.routers.items };
 }
 
-/// The interfaces without their links.
-fn without_links(alloc: Global, interfaces: &[NetInterface]) -> Result<Vec<Interface>, AllocError>
-    ensures { IfOk result (λ v. v.items ≡ map (λ i. i.interface) interfaces.now) }
-{
-    interfaces.iter().map(|i| i.interface).collect(alloc)
-}
-
 /// A router of its configuration, if that is lawful.
 fn check_router(alloc: Global, router: usize, node: Node) -> Result<NetRouter, NetRefused>
     ensures kept { IfOk result (λ r. r ≡ node) }
@@ -137,7 +130,8 @@ fn check_router(alloc: Global, router: usize, node: Node) -> Result<NetRouter, N
         prefixes,
         quiet,
     } = node;
-    match RouterConfig::check(without_links(alloc, &interfaces)?, prefixes, quiet) {
+    let without_links = interfaces.iter().map(|i| i.interface).collect(alloc)?;
+    match RouterConfig::check(without_links, prefixes, quiet) {
         Ok(config) => Ok(NetRouter { interfaces, config }),
         Err(refusal) => Err(NetRefused::BadRouter { router, refusal }),
     }
