@@ -12,7 +12,6 @@ use crate::station::interface_at;
 use fib::Hop;
 use prefix6::{Addr6, Prefix};
 use route_table::{INFINITY, Origin, RouteStore};
-use std::alloc::AllocError;
 use std::marker::Model;
 
 /// A hop of packets, across a link to another router.
@@ -159,30 +158,6 @@ impl<S: RouteStore> Running<S> {
         }
     }
 
-    /// The way from a router, until it ends.
-    ///
-    /// # Errors
-    /// Only out of memory.
-    fn walk(&self, router: usize, addr: Addr6) -> Result<Path, AllocError>
-        ensures { IfOk result (IsPath self.now.network (forwardings_of self.now.world) addr router) }
-    {
-        let mut hops = Vec::new(self.alloc);
-        let mut passed = Vec::new(self.alloc);
-        let mut at = router;
-        while !passed.contains(&at) {
-            match self.hand_on(at, addr) {
-                Err(end) => return Ok(Path { hops, end }),
-                Ok(hop) => {
-                    passed.push(at)?;
-                    hops.push(hop)?;
-                    at = hop.router;
-                }
-            }
-        }
-        let end = PathEnd::Loops { from: at };
-        Ok(Path { hops, end })
-    }
-
     /// The way of packets for an address from a router: each router hands them on by the longest match of its table.
     ///
     /// # Errors
@@ -195,7 +170,21 @@ impl<S: RouteStore> Running<S> {
         if router >= self.routers() {
             return Err(LabError::NoSuchRouter);
         }
-        Ok(self.walk(router, addr)?)
+        let mut hops = Vec::new(self.alloc);
+        let mut passed = Vec::new(self.alloc);
+        let mut at = router;
+        while !passed.contains(&at) {
+            match self.hand_on(at, addr) {
+                Err(end) => return Ok(Path { hops, end }),
+                Ok(hop) => {
+                    passed.push(at).map_err(|_| LabError::OutOfMemory)?;
+                    hops.push(hop).map_err(|_| LabError::OutOfMemory)?;
+                    at = hop.router;
+                }
+            }
+        }
+        let end = PathEnd::Loops { from: at };
+        Ok(Path { hops, end })
     }
 }
 

@@ -1,7 +1,7 @@
 use Rattle.std.proofs.Common.{◌+◌, ◌-◌, length}
 use Rattle.ripng_world.specs.Packets.{forwardings_of}
 use Rattle.ripng_world.proofs.PathWalked.{IsWalked}
-use Rattle.ripng_world.proofs.running.Running.walk.Given as goal
+use Rattle.ripng_world.proofs.running.Running.path.Given as goal
 
 abbrev pub invariant-loop-addr : goal.invariant-loop-addr
 invariant-loop-addr g l = record {
