@@ -1,12 +1,11 @@
 //! Where packets go by the tables of routers that run: from router to router, each by its longest match, until the way ends.
 
-ghost use Rattle.std.specs.Prelude.{◌≡◌, ◌<◌, ◌≤◌, ◌≢◌, ◌^◌, ◌⊎◌, ◌↔◌, IfErr, IfOk, IfSome, IsNone, length, option_map, position};
-ghost use Rattle.ripng_world.specs.Common.{IsLongestMatch, IsMatch, Prefix6, cleared, forwards, network_now, HandsOn, forwardings_of, EndsAt, IsPath, LeadsTo, is_on, Hop as WalkHop, past_of, PathValue};
+ghost use Rattle.std.specs.Prelude.{◌≡◌, ◌<◌, ◌≤◌, ◌≢◌, ◌^◌, ◌⊎◌, ◌↔◌, IfErr, IfOk, IfSome, IsNone, length, option_map};
+ghost use Rattle.ripng_world.specs.Common.{IsLongestMatch, IsMatch, Prefix6, cleared, forwards, network_now, HandsOn, forwardings_of, EndsAt, IsPath, LeadsTo, Hop as WalkHop, past_of, PathValue};
 ghost use Rattle.std.specs.FinMap as map_of;
 
 use crate::event::LabError;
 use crate::lab::Lab;
-use crate::network::NetInterface;
 use crate::running::Running;
 use crate::station::interface_at;
 use fib::Hop;
@@ -100,15 +99,6 @@ fn longest_match<S: RouteStore>(routes: &S, addr: Addr6) -> Option<Hop>
     None
 }
 
-/// The first of a router's interfaces that is on the link and has the address.
-fn place_on(interfaces: &[NetInterface], link: u16, addr: Addr6) -> Option<usize>
-    ensures { result ≡ position (is_on link addr) interfaces.now }
-{
-    interfaces
-        .iter()
-        .position(|i| i.link == link && i.interface.addr == addr)
-}
-
 impl<S: RouteStore> Running<S> {
     /// The hop from a router by one of its interfaces to that other router, if it has the next hop's address on the link.
     fn hop_to(&self, router: usize, iface: usize, next_hop: Addr6, other: usize) -> Option<PathHop>
@@ -120,7 +110,10 @@ impl<S: RouteStore> Running<S> {
         }
         let here = interface_at(&self.stations, router, iface)?;
         let station = self.stations.get(other)?;
-        let router_iface = place_on(station.interfaces(), here.link, next_hop)?;
+        let router_iface = station
+            .interfaces()
+            .iter()
+            .position(|i| i.link == here.link && i.interface.addr == next_hop)?;
         Some(PathHop {
             iface,
             router: other,
@@ -141,10 +134,7 @@ impl<S: RouteStore> Running<S> {
         None
     }
 
-    /// The hop by which a router hands on packets for the address.
-    ///
-    /// # Errors
-    /// How the way ends, if it ends there.
+    /// The hop by which a router hands on packets for the address, or how the way ends there.
     fn hand_on(&self, router: usize, addr: Addr6) -> Result<PathHop, PathEnd>
         ensures hop { IfOk result (HandsOn self.now.network (forwardings_of self.now.world) addr router) }
         ensures end { IfErr result (EndsAt self.now.network (forwardings_of self.now.world) addr router) }
