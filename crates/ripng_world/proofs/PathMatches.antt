@@ -1,5 +1,5 @@
 -- The longest match, found by going down from the longest prefixes that hold an address.
-use Rattle.std.proofs.Common.{◌≡◌, ℕ, ◌+◌, ◌-◌, ◌<◌, ◌≤◌, ◌^◌, Option, Some, None, IsSomeAnd, IsTrue, is_some, option_map, refl, ap, sym, subst, ◌∙◌, arith}
+use Rattle.std.proofs.Common.{◌≡◌, ℕ, ◌+◌, ◌-◌, ◌<◌, ◌≤◌, ◌^◌, Option, Some, None, IsNone, IfSome, MatchOption, IsSomeAnd, IsTrue, is_some, option_map, refl, ap, sym, subst, ◌∙◌, arith}
 use Rattle.std.specs.FinMap as map_of
 use Rattle.std.proofs.lemmas.Bool.{false≢true}
 use Rattle.prefix6.specs.Prefix.{Prefix6, cleared}
@@ -7,9 +7,6 @@ use Rattle.prefix6.proofs.PrefixSets.{is_cleared, holds_own, is_the_one}
 use Rattle.fib.specs.Forwarding.{Forward, Forwarding, IsMatch, IsLongestMatch}
 use Rattle.fib.specs.declared.change.Hop.{Hop}
 use Rattle.route_table.proofs.TableLaws.{Some-same, None-Some}
-
-pub below_129 : (len : ℕ) → len ≤ 128 → len < 129
-below_129 len h = omega arith
 
 module _ (table : Forwarding) (addr : ℕ) where
   -- where the prefix of a length that holds the address has no hop, no match has that length
@@ -22,20 +19,6 @@ module _ (table : Forwarding) (addr : ℕ) where
       by_value : (o : Option Forward) → option_map (λ (f : Forward). f.hop) o ≡ None → IsTrue (is_some o) → ⊥
       by_value None e is = false≢true is
       by_value (Some f) e is = None-Some f.hop (sym e)
-
-  -- going down by one length
-  pub none_longer : (n : ℕ) → 0 < n → ((p : Prefix6) → IsMatch table addr p → p.len < n) → option_map (λ (f : Forward). f.hop) (map_of.get table (cleared addr (n - 1))) ≡ None
-      → (p : Prefix6) → IsMatch table addr p → p.len < n - 1
-  none_longer n positive below none p m = less p.len n positive (below p m) (none_as_long (n - 1) none p m)
-    where
-      less : (l n : ℕ) → 0 < n → l < n → (l ≡ n - 1 → ⊥) → l < n - 1
-      less l n positive h other = omega arith
-
-  pub none_left : (n : ℕ) → n ≡ 0 → ((p : Prefix6) → IsMatch table addr p → p.len < n) → (p : Prefix6) → IsMatch table addr p → ⊥
-  none_left n none below p m = impossible p.len n none (below p m)
-    where
-      impossible : (l n : ℕ) → n ≡ 0 → l < n → ⊥
-      impossible l n e h = omega arith
 
   is_longest : (len : ℕ) → len ≤ 128 → addr < 2 ^ 128 → ((p : Prefix6) → IsMatch table addr p → p.len < len + 1)
       → (hop : Hop) → option_map (λ (f : Forward). f.hop) (map_of.get table (cleared addr len)) ≡ Some hop → IsLongestMatch table addr hop
@@ -54,12 +37,37 @@ module _ (table : Forwarding) (addr : ℕ) where
             its_hop = subst (λ (o : Option Forward). IsSomeAnd o (λ g. g.hop ≡ hop)) (sym at) (Some-same f.hop hop e);
           }
 
-  pub found_longest : (n : ℕ) → 0 < n → n ≤ 129 → addr < 2 ^ 128 → ((p : Prefix6) → IsMatch table addr p → p.len < n)
-      → (hop : Hop) → option_map (λ (f : Forward). f.hop) (map_of.get table (cleared addr (n - 1))) ≡ Some hop → IsLongestMatch table addr hop
-  found_longest n positive bound low below hop is = is_longest (n - 1) (shorter n positive bound) low (λ p m. same p.len n positive (below p m)) hop is
-    where
-      shorter : (n : ℕ) → 0 < n → n ≤ 129 → n - 1 ≤ 128
-      shorter n positive bound = omega arith
+  -- what the prefix of a length answers
+  abbrev pub HopAt : ℕ → Option Hop → Type 0
+  HopAt len o = (o ≡ option_map (λ (f : Forward). f.hop) (map_of.get table (cleared addr len))) × (addr < 2 ^ 128)
 
-      same : (l n : ℕ) → 0 < n → l < n → l < n - 1 + 1
-      same l n positive h = omega arith
+  -- where the longest 129 - from lengths answer none, each match is shorter
+  shorter : (from : ℕ) → from ≤ 129 → ((k : ℕ) → k < from → HopAt (129 - 1 - k) None) → (p : Prefix6) → IsMatch table addr p → p.len < 129 - from
+  shorter from most none p m = below p.len m.is_prefix.short (λ long. none_as_long (129 - 1 - (128 - p.len)) (sym (none (128 - p.len) (inside p.len m.is_prefix.short long)).0) p m (back p.len m.is_prefix.short))
+    where
+      inside : (l : ℕ) → l ≤ 128 → 129 - from ≤ l → 128 - l < from
+      inside l short long = omega (arith, most)
+
+      back : (l : ℕ) → l ≤ 128 → l ≡ 129 - 1 - (128 - l)
+      back l short = omega arith
+
+      below : (l : ℕ) → l ≤ 128 → (129 - from ≤ l → ⊥) → l < 129 - from
+      below l short other = omega arith
+
+  abbrev pub Sought : Option Hop → Type 0
+  Sought r = MatchOption r ((k : ℕ) → k < 129 → HopAt (129 - 1 - k) None) (λ hop. (i : ℕ) × (i < 129) × HopAt (129 - 1 - i) (Some hop) × ((k : ℕ) → k < i → HopAt (129 - 1 - k) None))
+
+  pub found_longest : (r : Option Hop) → Sought r → IfSome r (IsLongestMatch table addr)
+  found_longest None h = tt
+  found_longest (Some hop) h =
+      is_longest (129 - 1 - h.0) (omega arith) h.2.1 (λ p m. same p.len h.0 h.1 (shorter h.0 (omega (arith, h.1)) h.3 p m)) hop (sym h.2.0)
+    where
+      same : (l i : ℕ) → i < 129 → l < 129 - i → l < 129 - 1 - i + 1
+      same l i inside h = omega arith
+
+  pub found_none : (r : Option Hop) → IsNone r → Sought r → (p : Prefix6) → IsMatch table addr p → ⊥
+  found_none None none h p m = impossible p.len (shorter 129 (omega arith) h p m)
+    where
+      impossible : (l : ℕ) → l < 129 - 129 → ⊥
+      impossible l h = omega arith
+  found_none (Some hop) none h p m = absurd (cc)

@@ -1,5 +1,5 @@
 -- Who has the address of a next hop, and where a router forwards packets.
-use Rattle.std.proofs.Common.{◌≡◌, ℕ, ◌+◌, ◌<◌, ◌≤◌, ◌==◌, Bool, true, false, cond, nat_lt, List, length, get_or, Some, None, option_map, slice_get, refl, ap, sym, subst, ◌∙◌, arith}
+use Rattle.std.proofs.Common.{◌≡◌, ℕ, ◌<◌, ◌≤◌, ◌==◌, Bool, true, false, cond, nat_lt, List, length, get_or, Some, None, option_map, slice_get, refl, ap, sym, subst, ◌∙◌, arith}
 use Rattle.std.specs.List.{position, position_or_len}
 use Rattle.std.proofs.lemmas.Bool.{and_from, and_parts, eq-eqb, eqb-true, false≢true, ltb-false}
 use Rattle.std.proofs.lemmas.List.{length-map}
@@ -88,12 +88,6 @@ led_inside net router iface next_hop h leads =
     let l = leads.is_hop.1 in
     let n = node_of net h.router h.router_iface l.there l.there_is in
     slice_get_within net h.router n.0 n.1
-
-pub next_router : (m n : ℕ) → m ≤ n → (n ≡ m → ⊥) → m + 1 ≤ n
-next_router m n h other = omega arith
-
-pub past_all : (m n routers : ℕ) → m ≤ n → routers ≤ m → n < routers → ⊥
-past_all m n routers h k l = omega arith
 
 -- so none leads past the last
 pub leads_past : (stations : List StationValue) (router iface next_hop other : ℕ) → length stations ≤ other → (h : Hop) → LeadsTo (network_of stations) router iface next_hop h → h.router ≡ other → ⊥

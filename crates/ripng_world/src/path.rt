@@ -91,12 +91,7 @@ fn longest_match<S: RouteStore>(routes: &S, addr: Addr6) -> Option<Hop>
     ensures found { IfSome result (IsLongestMatch (forwards (S.table routes.now)) addr) }
     ensures none { IsNone result → (p : Prefix6) → ¬ (IsMatch (forwards (S.table routes.now)) addr p) }
 {
-    for len in (0..129).rev() {
-        if let Some(hop) = hop_at(routes, addr, len) {
-            return Some(hop);
-        }
-    }
-    None
+    (0..129).rev().find_map(|len| hop_at(routes, addr, len))
 }
 
 impl<S: RouteStore> Running<S> {
@@ -126,12 +121,7 @@ impl<S: RouteStore> Running<S> {
         ensures found { IfSome result (LeadsTo self.now.network router iface next_hop) }
         ensures none { IsNone result → (h : WalkHop) → ¬ (LeadsTo self.now.network router iface next_hop h) }
     {
-        for other in 0..self.routers() {
-            if let Some(hop) = self.hop_to(router, iface, next_hop, other) {
-                return Some(hop);
-            }
-        }
-        None
+        (0..self.routers()).find_map(|other| self.hop_to(router, iface, next_hop, other))
     }
 
     /// The hop by which a router hands on packets for the address, or how the way ends there.
