@@ -54,6 +54,7 @@ module _ (table : Forwarding) (addr : ℕ) where
       below : (l : ℕ) → l ≤ 128 → (129 - from ≤ l → ⊥) → l < 129 - from
       below l short other = omega arith
 
+  -- what the lengths answer, the greatest first, as far as they were asked
   abbrev pub Sought : Option Hop → Type 0
   Sought r = MatchOption r ((k : ℕ) → k < 129 → HopAt (129 - 1 - k) None) (λ hop. (i : ℕ) × (i < 129) × HopAt (129 - 1 - i) (Some hop) × ((k : ℕ) → k < i → HopAt (129 - 1 - k) None))
 

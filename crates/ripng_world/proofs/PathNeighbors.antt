@@ -1,5 +1,5 @@
 -- Who has the address of a next hop, and where a router forwards packets.
-use Rattle.std.proofs.Common.{◌≡◌, ℕ, ◌<◌, ◌≤◌, ◌==◌, Bool, true, false, cond, nat_lt, List, length, get_or, Some, None, option_map, slice_get, refl, ap, sym, subst, ◌∙◌, arith}
+use Rattle.std.proofs.Common.{◌≡◌, ℕ, ◌<◌, ◌≤◌, ◌==◌, ◌&&◌, Bool, true, false, cond, nat_lt, List, length, get_or, Some, None, option_map, slice_get, refl, ap, sym, subst, ◌∙◌, arith}
 use Rattle.std.specs.List.{position, position_or_len}
 use Rattle.std.proofs.lemmas.Bool.{and_from, and_parts, eq-eqb, eqb-true, false≢true, ltb-false}
 use Rattle.std.proofs.lemmas.List.{length-map}
@@ -16,7 +16,7 @@ use Rattle.router_core.specs.Changes.{forwards}
 use Rattle.router_core.specs.Machine.{State}
 use Rattle.ripng_world.specs.Network.{Network, interface_at}
 use Rattle.ripng_world.specs.Packets.{Forwardings, ForwardsBy, HandsOn, forwardings_of}
-use Rattle.ripng_world.specs.Path.{ForwardsToNobody, HasNoMatch, LeadsTo, is_on}
+use Rattle.ripng_world.specs.Path.{ForwardsToNobody, HasNoMatch, LeadsTo}
 use Rattle.ripng_world.specs.Stations.{StationValue, network_of}
 use Rattle.ripng_world.specs.Walks.{Hop}
 use Rattle.ripng_world.specs.World.{World}
@@ -25,6 +25,10 @@ use Rattle.ripng_world.proofs.Packets.{node_of}
 use Rattle.ripng_world.proofs.Refusals.{interface_of}
 
 -- ---- one link
+
+-- the interface is on the link, and has the address
+abbrev pub is_on : ℕ → ℕ → NetInterface → Bool
+is_on link addr i = i.link == link && i.interface.addr == addr
 
 abbrev addr_of : NetInterface → ℕ
 addr_of i = i.interface.addr

@@ -19,4 +19,4 @@ pub use Rattle.ripng_world.specs.Stopping.{HaveStopped, RoundStops, RoundsStop, 
 pub use Rattle.ripng_world.specs.Watching.{HeardInPart, WatchedInPart, WatchedRun, failures, heard, AreMadeTold, IfRefused, IsMadeTold, RoundToldInPart, RoundsToldInPart, due, WatchedUntil, failures_in, refusal_in, Told, refused_as}
 pub use Rattle.ripng_world.specs.Healing.{Heals, AreWithinGarbageTime, AreHealed, FitsTablesSince, network_now}
 pub use Rattle.ripng_world.specs.Packets.{LetsArrive, Forwardings, ForwardsBy, ArriveBy, AreThere, PacketsArrive, forwardings_of, routers_of, HandsOn}
-pub use Rattle.ripng_world.specs.Path.{IsPath, PathValue, EndsAt, LeadsTo, is_on}
+pub use Rattle.ripng_world.specs.Path.{IsPath, PathValue, EndsAt, LeadsTo}

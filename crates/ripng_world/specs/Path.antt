@@ -1,6 +1,6 @@
 -- The way of packets by the tables of routers, and how it ends.
-use Rattle.std.specs.Prelude.{◌≡◌, ◌↔◌, ℕ, nat_eq, ◌==◌, ◌&&◌, Bool, List, [], ◌∷◌, Contains, Some, option_map}
-use Rattle.ripng_world.specs.Below.{IsDistinct, Prefix6, Forwarding, IsMatch, Via, NetInterface, PathEnd, Delivered, NoRoute, NextHopIsNobodys, Loops}
+use Rattle.std.specs.Prelude.{◌≡◌, ◌↔◌, ℕ, nat_eq, List, [], ◌∷◌, Contains, Some, option_map}
+use Rattle.ripng_world.specs.Below.{IsDistinct, Prefix6, Forwarding, IsMatch, Via, PathEnd, Delivered, NoRoute, NextHopIsNobodys, Loops}
 use Rattle.ripng_world.specs.Network.{Network, interface_at}
 use Rattle.ripng_world.specs.Packets.{Forwardings, ForwardsBy, HandsOn, DeliversItself, ArriveBy}
 use Rattle.ripng_world.specs.Walks.{Hop, IsHop, end_of}
@@ -35,10 +35,6 @@ EndsAt net fibs addr router Delivered = DeliversItself fibs addr router
 EndsAt net fibs addr router NoRoute = HasNoMatch fibs addr router
 EndsAt net fibs addr router NextHopIsNobodys = ForwardsToNobody net fibs addr router
 EndsAt net fibs addr router (Loops from) = ⊥
-
--- the interface is on the link, and has the address
-abbrev pub is_on : ℕ → ℕ → NetInterface → Bool
-is_on link addr i = i.link == link && i.interface.addr == addr
 
 -- ---- ways
 

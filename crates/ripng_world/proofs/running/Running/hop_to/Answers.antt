@@ -4,9 +4,8 @@ use Rattle.std.proofs.lemmas.Iterator.{YieldsList-from_slice}
 use Rattle.std.proofs.lemmas.Iterator.Search.{position_from_yields_List}
 use Rattle.std.proofs.lemmas.Option.{slice_get-get_or}
 use Rattle.ripng_world.specs.Network.{interface_at}
-use Rattle.ripng_world.specs.Path.{is_on}
 use Rattle.ripng_world.specs.Stations.{StationValue, network_of}
-use Rattle.ripng_world.proofs.PathNeighbors.{leads_nowhere, leads_past, leads_to, passed_by}
+use Rattle.ripng_world.proofs.PathNeighbors.{is_on, leads_nowhere, leads_past, leads_to, passed_by}
 use Rattle.ripng_world.proofs.running.Running.hop_to.Goals as goal
 
 pub returns-then-other-router-clause-none : goal.returns-then-other-router-clause-none
