@@ -12,7 +12,7 @@ cd "$(dirname "$0")/.."
 way=below
 program=
 room=$(mktemp -d)
-trap 'rm -rf "$room"' EXIT
+trap 'kill $(jobs -p) 2> /dev/null || true; rm -rf "$room"' EXIT
 folder=$room/all
 if [ "${1:-}" = --libraries ]; then
     crate=$2
