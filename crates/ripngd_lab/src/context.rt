@@ -80,10 +80,8 @@ pub fn number<N: FromStr<Err: Drop>>(word: &str) -> Result<N, Wrong> {
 
 /// A number from 1 to `max`.
 pub fn up_to<N: FromStr<Err: Drop> + Ord + Default + Copy>(word: &str, max: N) -> Result<N, Wrong> {
-    match number(word)? {
-        count if count > N::default() && count <= max => Ok(count),
-        _ => Err(Wrong::Differs),
-    }
+    let count = Some(number(word)?).filter(|count| *count > N::default() && *count <= max);
+    count.ok_or(Wrong::Differs)
 }
 
 /// The moment so many gaps later, if there is one.
@@ -124,7 +122,6 @@ pub fn name_of<T: PartialEq>(named: &T, names: &[(&'static str, T)]) -> &'static
 
 /// Pairs of hexadecimal digits, at least one.
 pub fn are_bytes(digits: &[u8]) -> bool {
-    !digits.is_empty()
-        && digits.len().is_multiple_of(2)
-        && digits.iter().all(|digit| digit.is_ascii_hexdigit())
+    let are_pairs = !digits.is_empty() && digits.len().is_multiple_of(2);
+    are_pairs && digits.iter().all(|digit| digit.is_ascii_hexdigit())
 }

@@ -4,10 +4,8 @@ ghost use Rattle.std.specs.Prelude.{◌≡◌, ◌<◌, ◌++◌, ◌∷◌, [],
 ghost use Rattle.ripngd_lab.specs.Common.{Prints, aside_of, with_member, HasTold, HappensGiving, WatchedInPart, event_of, failures, value_of};
 
 use crate::forms::{Action, Step};
-use crate::plan::{Ticking, set_member};
-use crate::{
-    Expected, Horizon, Line, Notice, Outages, Outcome, Refusal, Stop, Unmet, Watch, Way, meet,
-};
+use crate::plan::{Outages, Ticking, set_member};
+use crate::{Expected, Horizon, Line, Notice, Outcome, Refusal, Stop, Unmet, Watch, Way, meet};
 use prefix6::Prefix;
 use ripng_world::{Event, Lab, LabError, Observer, Running, Stopped};
 use route_table::SortedRoutes;
@@ -50,10 +48,8 @@ impl Site {
         }
     }
 
-    /// An event happens, and the observer is notified of it, with the router's output.
-    ///
-    /// # Errors
-    /// The first reason to refuse the event, or out of memory, without a notification; or the observer's, and then the event is done.
+    /// An event happens, and the observer is notified of it, with the router's output. The error is the first reason to refuse the event, or
+    /// out of memory, without a notification; or the observer's, and then the event is done.
     pub fn step_watched<V: Observer<Routes>>(
         &mut self,
         event: &Event<'_>,

@@ -20,8 +20,8 @@ const LONGEST: usize = 12;
 /// What a line should have been, or out of memory.
 type Hint = Result<String, AllocError>;
 
-/// The same with the number of the line, if there is a hint.
-type LineHint = Result<Option<(usize, String)>, AllocError>;
+/// What there is, if there is any, or out of memory.
+type Found<T> = Result<Option<T>, AllocError>;
 
 /// Runs a script as [`lab`](crate::lab) does. If a refused line ends it, `err` gets a line `ripngd: line L: ..` with a hint, if there
 /// is one; for a network that is refused, L is the line with the fault. If `err` or memory fails, there is no hint.
@@ -50,12 +50,12 @@ pub fn lab_hinted<W: Write, E: Write>(
 ///
 /// # Errors
 /// Out of memory.
-pub fn hint_of(alloc: Global, script: &[u8], ending: &Ending) -> LineHint {
+pub fn hint_of(alloc: Global, script: &[u8], ending: &Ending) -> Found<(usize, String)> {
     let mut lines = script.split(|byte| *byte == b'\n');
     let line = words_in(lines.nth(ending.line.saturating_sub(1)).unwrap_or(&[]));
     let hint = match ending.refusal {
         Refusal::BadLine(why) => hint_of_bad(alloc, line, why)?,
-        Refusal::Network(refused) => return fault_of(alloc, script, ending.line, refused),
+        Refusal::Network(refused) => return fault(alloc, script, ending.line, refused),
         Refusal::Event(LabError::NoSuchRouter) => {
             counted(alloc, names_of(alloc, script)?.len(), "routers")?
         }
@@ -78,27 +78,23 @@ fn meaning_of(refusal: Refusal) -> &'static str {
         Refusal::Outage => "in phases all take part: a router is silent or a link is cut",
         Refusal::Rounds(_) =>
             "a regular update is not due yet: rounds lie at least 15000 milliseconds apart",
-        Refusal::Event(why) => match why {
-            LabError::NoSuchInterface =>
-                "a router's interfaces are numbered from 0, by its iface lines",
-            LabError::NoSuchDatagram =>
-                "fewer datagrams are heard: they are counted from 0 for the first that was not passed by yet",
-            LabError::OtherLink =>
-                "the datagram was sent on another link than that of the interface",
-            LabError::NotAStranger =>
-                "the router takes it for a neighbor's: liar forges a Response",
-            LabError::NotALiar => "the router refuses it: liar is for a Response that it accepts",
-            LabError::ReconfigureRefused(change) => match change {
-                ReconfigureRefused::BadCost => "COST is a number from 1 to 15",
-                ReconfigureRefused::PrefixNotAllowed =>
-                    "PREFIX is neither multicast nor link-local",
-                ReconfigureRefused::AlreadyOwned =>
-                    "the router owns the prefix already: drop it first",
-                ReconfigureRefused::NotOwned =>
-                    "the router owns no such prefix: look at its length too",
-                _ => "the router has no room for one more prefix",
-            },
-            _ => "",
+        Refusal::Event(LabError::NoSuchInterface) =>
+            "a router's interfaces are numbered from 0, by its iface lines",
+        Refusal::Event(LabError::NoSuchDatagram) =>
+            "fewer datagrams are heard: they are counted from 0 for the first that was not passed by yet",
+        Refusal::Event(LabError::OtherLink) =>
+            "the datagram was sent on another link than that of the interface",
+        Refusal::Event(LabError::NotAStranger) =>
+            "the router takes it for a neighbor's: liar forges a Response",
+        Refusal::Event(LabError::NotALiar) =>
+            "the router refuses it: liar is for a Response that it accepts",
+        Refusal::Event(LabError::ReconfigureRefused(change)) => match change {
+            ReconfigureRefused::BadCost => "COST is a number from 1 to 15",
+            ReconfigureRefused::PrefixNotAllowed => "PREFIX is neither multicast nor link-local",
+            ReconfigureRefused::AlreadyOwned => "the router owns the prefix already: drop it first",
+            ReconfigureRefused::NotOwned =>
+                "the router owns no such prefix: look at its length too",
+            _ => "the router has no room for one more prefix",
         },
         _ => "",
     }
@@ -106,9 +102,7 @@ fn meaning_of(refusal: Refusal) -> &'static str {
 
 /// What a malformed line, or one out of place, should have been.
 fn hint_of_bad(alloc: Global, line: &str, why: BadLine) -> Hint {
-    if !line.starts_with("say ")
-        && let Some(wrong) = wrong_spacing(line)
-    {
+    if let Some(wrong) = wrong_spacing(line) {
         return String::from_str(alloc, wrong);
     }
     let verb = first_word(line);
@@ -127,26 +121,24 @@ fn hint_of_bad(alloc: Global, line: &str, why: BadLine) -> Hint {
     }
 }
 
-/// What is wrong with a line whatever its words are.
+/// What is wrong with a line whatever its words are; `say` may have any blanks.
 fn wrong_spacing(line: &str) -> Option<&'static str> {
-    if line.starts_with('\u{feff}') {
-        Some("it begins with a byte order mark: a script is UTF-8 without one")
-    } else if line.contains('\t') {
-        Some("it has a tab: words are one space apart")
-    } else if line.contains("  ") {
-        Some("it has two spaces in a row: words are one space apart")
-    } else {
-        None
-    }
+    Some(match line {
+        _ if line.starts_with("say ") => return None,
+        _ if line.starts_with('\u{feff}') =>
+            "it begins with a byte order mark: a script is UTF-8 without one",
+        _ if line.contains('\t') => "it has a tab: words are one space apart",
+        _ if line.contains("  ") => "it has two spaces in a row: words are one space apart",
+        _ => return None,
+    })
 }
 
 /// The first word of a form that is nearest to a word, if one is near.
-fn nearest(alloc: Global, word: &str) -> Result<Option<&'static str>, AllocError> {
-    let mut near = None;
+fn nearest(alloc: Global, word: &str) -> Found<&'static str> {
     if word.len() > LONGEST {
-        return Ok(near);
+        return Ok(None);
     }
-    let mut bound = NEAR.saturating_add(1).min(word.len());
+    let (mut near, mut bound) = (None, NEAR.saturating_add(1).min(word.len()));
     for (form, _) in FORMS {
         let first = first_word(form);
         let distance = levenshtein(alloc, first, word)?;
@@ -189,7 +181,7 @@ fn hint_of_word(alloc: Global, line: &str, form: usize, place: usize, wrong: Wro
 /// The number, from 1, of the line with the fault of a network that is refused at the line `cold`, and what the line should have been.
 /// It is the first line, of a router that is named, such that the network of the lines up to it is refused for the same reason. With a
 /// line of prefixes all routers and interfaces count, with another one no prefixes do.
-fn fault_of(alloc: Global, script: &[u8], cold: usize, refused: NetRefused) -> LineHint {
+fn fault(alloc: Global, script: &[u8], cold: usize, refused: NetRefused) -> Found<(usize, String)> {
     let mut context = Context::new(alloc);
     let mut routers = 0_usize;
     for (place, text) in script.split(|byte| *byte == b'\n').take(cold).enumerate() {
@@ -214,12 +206,7 @@ fn fault_of(alloc: Global, script: &[u8], cold: usize, refused: NetRefused) -> L
 }
 
 /// Why a network is refused, if it is: its routers and interfaces are of so many lines of the script, its prefixes of so many.
-fn refusal_of(
-    alloc: Global,
-    script: &[u8],
-    listed: usize,
-    owned: usize,
-) -> Result<Option<NetRefused>, AllocError> {
+fn refusal_of(alloc: Global, script: &[u8], listed: usize, owned: usize) -> Found<NetRefused> {
     let mut context = Context::new(alloc);
     let mut nodes = Vec::new(alloc);
     for (place, text) in script.split(|byte| *byte == b'\n').take(listed).enumerate() {

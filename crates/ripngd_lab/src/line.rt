@@ -151,9 +151,7 @@ impl<'a> Line<'a> {
             }
             "PHASES" => {
                 self.count = up_to(word, PHASES_LIMIT)?;
-                self.last = context
-                    .latest
-                    .and_then(|now| end_of_phases(now, self.count));
+                self.last = context.latest.and_then(|at| end_of_phases(at, self.count));
             }
             "SEED" => self.seed = number(word)?,
             part => self.take_other(part, word)?,

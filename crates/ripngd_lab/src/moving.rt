@@ -33,12 +33,8 @@ pub struct MadePhases {
 
 impl fmt::Display for MadePhases {
     fn fmt<W: fmt::Write>(&self, f: &mut fmt::Formatter<W>) -> fmt::Result {
-        write!(
-            f,
-            "phases {} last change {}",
-            self.phases,
-            OrNone(self.last)
-        )
+        let (phases, last) = (self.phases, OrNone(self.last));
+        write!(f, "phases {phases} last change {last}")
     }
 }
 
@@ -75,11 +71,8 @@ impl Course {
         Ok(watch.noticed(Notice::Lied(lab, &event, &answer, first, sender))?)
     }
 
-    /// A wave is made: its ticks, and then its deliveries. What was sent before these is passed by from then on.
-    ///
-    /// # Errors
-    /// A router or a datagram is not there, a regular update is not due; out of memory, or the observer fails. What was done before it
-    /// stays done.
+    /// A wave is made: its ticks, and then its deliveries. What was sent before these is passed by from then on. It ends where a router or
+    /// a datagram is not there, a regular update is not due, memory is out, or the observer fails; what was done stays done.
     pub fn make_wave<V: Watch>(&mut self, wave: &Wave<'_>, watch: &mut V) -> Outcome
         ensures { HasTold result V.starts V.takes V.fails V.notes (Some (value_of self.old.site), watch.old) (Some (value_of self.new.site), watch.new) }
     {
@@ -161,11 +154,9 @@ impl Course {
 
     /// So many phases are made, one after another, by the chance of a generator that starts from a seed, and what they sent is passed by.
     /// The observer is notified in which of them some table last changed. 28 of them leave each table with the least costs of now, and
-    /// nothing else below 16 hops, whatever happened before.
-    ///
-    /// # Errors
-    /// `LiedTo` after a forged Response, `Outage` where a router is silent or a link is cut: nothing is then done. A router whose regular
-    /// update is not due in time, a phase past the last moment, out of memory, or the observer fails. What was done before it stays done.
+    /// nothing else below 16 hops, whatever happened before. Nothing is done, but `LiedTo` refused after a forged Response, and `Outage`
+    /// where a router is silent or a link is cut. The phases end where a router's regular update is not due in time, one is past the last
+    /// moment, memory is out, or the observer fails; what was done stays done.
     pub fn make_phases<V: Watch>(&mut self, line: &Line<'_>, watch: &mut V) -> Outcome
         ensures told { HasTold result V.starts V.takes V.fails V.notes (Some (value_of self.old.site), watch.old) (Some (value_of self.new.site), watch.new) }
         ensures all { OnOk result (AllTakePart self.old.outages) }

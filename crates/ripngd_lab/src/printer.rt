@@ -306,10 +306,9 @@ impl<'a> fmt::Display for Named<'a> {
 /// # Errors
 /// Out of memory.
 pub fn names_of<'a>(alloc: Global, script: &'a [u8]) -> Result<Vec<&'a str>, AllocError> {
-    let lines = script
+    script
         .split(|byte| *byte == b'\n')
-        .map(|line| words_in(line));
-    lines
+        .map(|line| words_in(line))
         .filter(|words| first_word(*words) == "router")
         .map(|words| words.rsplit_once(' ').map_or("", |(_, name)| name))
         .map(|name| if name == "quiet" { "" } else { name })

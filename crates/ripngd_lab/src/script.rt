@@ -6,10 +6,8 @@ ghost use Rattle.ripngd_lab.specs.Common.{LabValue, HasTold, IsToldOfLab, IsTold
 use crate::course::check_named;
 use crate::forms::Verb;
 use crate::line::read_line;
-use crate::{
-    BadLine, Context, Course, Ending, Line, Names, Network, Notice, Outcome, Printer, Refusal,
-    RefusalName, Stop, Unmet, Watch, names_of,
-};
+use crate::printer::{Ending, Names, Notice, Printer, Watch, names_of};
+use crate::{BadLine, Context, Course, Line, Network, Outcome, Refusal, RefusalName, Stop, Unmet};
 use prefix6::{Addr6, Prefix};
 use ripng_world::{Lab, LabError, NetConfig, NetInterface, Node};
 use route_table::Moment;
@@ -216,21 +214,14 @@ impl Session {
         let routers = self.running()?.routers();
         check_named(Some(line.router), routers, LabError::NoSuchRouter)?;
         self.give_up();
-        self.course
-            .as_mut()
-            .ok_or(BadLine::BeforeStart)?
-            .bend(line, watch)
+        let course = self.course.as_mut().ok_or(BadLine::BeforeStart)?;
+        course.bend(line, watch)
     }
 
     /// The network, if its routers have started.
     fn running(&self) -> Result<&Network, BadLine> {
-        Ok(
-            self.course
-                .as_ref()
-                .ok_or(BadLine::BeforeStart)?
-                .site
-                .running(),
-        )
+        let course = self.course.as_ref().ok_or(BadLine::BeforeStart)?;
+        Ok(course.site.running())
     }
 
     /// The network is verified no longer.
