@@ -48,8 +48,8 @@ impl Site {
         }
     }
 
-    /// An event happens, and the observer is notified of it, with the router's output. The error is the first reason to refuse the event, or
-    /// out of memory, without a notification; or the observer's, and then the event is done.
+    /// An event happens, and the observer is notified of it, with the router's output. The error is the first reason to refuse the event,
+    /// or out of memory, without a notification; or the observer's, and then the event is done.
     pub fn step_watched<V: Observer<Routes>>(
         &mut self,
         event: &Event<'_>,
