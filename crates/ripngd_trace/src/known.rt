@@ -51,9 +51,8 @@ impl<'a> Known<'a> {
         self.routers.push(KnownRouter { table, timers })?;
         let config = router.config();
         let numbered = config.interfaces().iter().enumerate();
-        let interfaces = numbered
-            .map(|(iface, interface)| (*interface, lab.link(number, iface)))
-            .collect(self.alloc)?;
+        let linked = numbered.map(|(iface, interface)| (*interface, lab.link(number, iface)));
+        let interfaces = linked.collect(self.alloc)?;
         Ok(RouterRecord {
             quiet: config.is_quiet(),
             interfaces,
@@ -84,7 +83,6 @@ impl<'a> Known<'a> {
         })
     }
 
-    /// What a reader has to learn of a router. Then the router is known.
     fn news_at(&mut self, lab: &Network, router: usize) -> Result<News, AllocError>
         ensures listed { IfOk result (λ news. IfSome (slice_get self.old.routers.items router) (λ before. IfSome (slice_get lab.now.world.states router) (λ state.
             LeadsTo before.table news.routes.items news.gone.items state.table))) }
@@ -155,7 +153,6 @@ fn timers_in<S: RouteStore>(router: &Router<S>) -> Timers
     }
 }
 
-/// All routes of a table, in order.
 fn routes_in(alloc: Global, table: &Routes) -> Result<Vec<(Prefix, Route)>, AllocError>
     ensures { IfOk result (λ routes. routes.items ≡ map_of.entries table.now) }
 {
@@ -240,7 +237,6 @@ fn sender_at<'e>(lab: &'e Network, event: &Event<'_>) -> Option<(&'e Sent, Optio
     Some((sent, addr_at(lab, sent.router, sent.iface)))
 }
 
-/// The datagrams that were sent from a number on, in order, each with its own.
 fn sent_since(alloc: Global, lab: &Network, first: usize) -> Result<Vec<(usize, &Sent)>, AllocError>
     ensures { IfOk result (λ records. map sent_said records.items ≡ sent_from first lab.now.world.sent) }
 {
@@ -260,14 +256,14 @@ fn update_of(lab: &Network, known: &[KnownRouter], event: &Event<'_>) -> Option<
         Some(UpdateRecord::Regular)
     } else if moved.hold().ms() != before.timers.hold {
         Some(UpdateRecord::Triggered)
-    } else if moved.routes().walk_changed(None).is_some() {
-        Some(UpdateRecord::Held)
     } else {
-        None
+        moved
+            .routes()
+            .walk_changed(None)
+            .map(|_| UpdateRecord::Held)
     }
 }
 
-/// Whether one of the notes is of the entry at a place.
 fn is_noted(notes: &[Note], place: usize) -> bool
     ensures { result ≡ is_noted notes.now place }
 {
@@ -337,8 +333,7 @@ fn offers_of(
         && iface < moved.config().interfaces().len()
     {
         let source = addr_at(lab, sent.router, sent.iface).unwrap_or(Addr6::from_bits(0));
-        let arrival = sent.arrival(source, iface, now);
-        let offers = moved.offers(&arrival)?;
+        let offers = moved.offers(&sent.arrival(source, iface, now))?;
         let notes = answer.notes.as_slice();
         return offer_records(alloc, &known.table, notes, offers.as_slice());
     }

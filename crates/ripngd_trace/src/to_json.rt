@@ -17,7 +17,6 @@ use std::io::{self, ErrorKind, Write};
 pub struct JsonText {
     alloc: Global,
     writer: Writer,
-    /// Whether memory ran out.
     refused: bool,
 }
 
@@ -76,7 +75,6 @@ pub trait Members {
         ensures { Grows text.old text.new (members_tokens (members self.now)) };
 }
 
-/// No member.
 impl Members for () {
     ghost members = { λ _. no_members };
 
@@ -85,7 +83,6 @@ impl Members for () {
     }
 }
 
-/// A member by its name and its value, and those after it.
 impl<'a, T: ToJson, R: Members> Members for (&'static str, &'a T, R) {
     ghost members = { λ m. member m.0.now (T.json m.1.now) (R.members m.2) };
 
@@ -95,7 +92,6 @@ impl<'a, T: ToJson, R: Members> Members for (&'static str, &'a T, R) {
     }
 }
 
-/// Writes an object to a text.
 macro_rules! object {
     ($text:ident, $($members:tt)*) => {
         $text.object(&$crate::to_json::members!($($members)*))
@@ -208,7 +204,6 @@ impl<T: ToJson> ToJson for Option<T> {
     }
 }
 
-/// Writes a list, in order.
 fn write_list<T: ToJson>(values: &[T], text: &mut JsonText)
     ensures { Grows text.old text.new (json_tokens (list_of T.json values.now)) }
 {

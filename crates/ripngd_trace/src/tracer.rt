@@ -31,8 +31,7 @@ pub fn trace<W: Write>(alloc: Global, script: &[u8], out: &mut W) -> io::Result<
 
 /// Runs a script as [`ripngd_lab::lab`] does, and returns whether every line was done. Beside what its lines print, a line of
 /// English is written to `out` for the cold start and for each event: what a router received, what it did, and why; with `changes_only`,
-/// not of ticks and arrivals that change no forwarding table.
-/// docs/SCRIPTS.md has its parts. They say what [`trace`] has in its records.
+/// not of ticks and arrivals that change no forwarding table. docs/SCRIPTS.md has its parts. They say what [`trace`] has in its records.
 ///
 /// # Errors
 /// `OutOfMemory` where memory ran out, else the error of `out`.
@@ -45,7 +44,6 @@ pub fn explain<W: Write>(
     observed(alloc, script, Form::English, changes_only, out)
 }
 
-/// Runs a script, and writes a record of each thing that happens.
 fn observed<W: Write>(
     alloc: Global,
     script: &[u8],
@@ -84,9 +82,8 @@ fn observed<W: Write>(
 #[derive(Drop)]
 pub struct Tracer<'a, W: Write> {
     script: &'a [u8],
-    /// How many ticks the line has made.
     ticks: usize,
-    /// How many it had made when a forwarding table last changed or a route was last deleted, or 0.
+    /// How many ticks the line had made when a forwarding table last changed or a route was last deleted, or 0.
     ticks_at_change: usize,
     known: Known<'a>,
     form: Form,
@@ -107,9 +104,8 @@ impl<'a, W: Write> Tracer<'a, W> {
         ensures whole { OnOk result (SaysMove is_forged (said_by W.contents self.old) (record { lab = lab.now; event = event_of event.entry.now; answer = answer.now; first = first }) (said_by W.contents self.new) × SameOutput self.old self.new) }
         ensures broken { OnErr result (SaysAside (said_by W.contents self.old) Broken (said_by W.contents self.new) × SameOutput self.old self.new) }
     {
-        let record = self
-            .known
-            .event_record(lab, event, is_forged, answer, first, forger)?;
+        let known = &mut self.known;
+        let record = known.event_record(lab, event, is_forged, answer, first, forger)?;
         let is_tick = matches!(event, Event::Tick { .. });
         self.ticks = self.ticks.saturating_add(usize::from(is_tick));
         let changes = usize::from(record.changes_tables());
@@ -118,15 +114,12 @@ impl<'a, W: Write> Tracer<'a, W> {
         write_record(self.known.alloc, self.form, &record, self.out)
     }
 
-    /// Reports what a line does beside events.
     fn report_action(&mut self, action: Action<'_>) -> io::Result<()>
         ensures whole { OnOk result (SaysAlone action.entry (said_by W.contents self.old) (said_by W.contents self.new) × SameOutput self.old self.new) }
         ensures broken { OnErr result (SaysAside (said_by W.contents self.old) Broken (said_by W.contents self.new) × SameOutput self.old self.new) }
     {
-        let record = AsideRecord {
-            line: self.known.line,
-            action,
-        };
+        let line = self.known.line;
+        let record = AsideRecord { line, action };
         write_record(self.known.alloc, self.form, &record, self.out)
     }
 }

@@ -13,7 +13,6 @@ use fib::{Hop, RouteChange};
 use json::Token;
 use prefix6::{Addr6, Prefix};
 use ripng_world::{Event, Sent};
-use ripngd_lab::MadePhases;
 use route_table::{Deadline, Origin, Route};
 use router_core::{Change, Destination, Fault, Interface, Note};
 
@@ -53,25 +52,21 @@ impl<'a> ToJson for AsideRecord<'a> {
     ghost json = { json_of_aside };
 
     fn write_json(&self, text: &mut JsonText) {
+        let line = &self.line;
         match &self.action {
             Action::Prints { word, lines, .. } => {
-                object!(text, self.line, "record": word, "prints": lines);
+                object!(text, line, "record": word, "prints": lines);
             }
-            Action::Loses(datagram) => object!(text, self.line, "record": &"lost", datagram),
+            Action::Loses(datagram) => object!(text, line, "record": &"lost", datagram),
             Action::GoesRound { rounds, last } => {
-                object!(text, self.line, "record": &"rounds", rounds, last);
+                object!(text, line, "record": &"rounds", rounds, last);
             }
-            Action::Makes(MadePhases { phases, last }) => {
-                object!(text, self.line, "record": &"phases", phases, last);
-            }
-            Action::Ends { why, hint, .. } => {
-                object!(text, self.line, "record": &"refused", why, hint);
-            }
+            Action::Makes(made) => object!(text, line, "record": &"phases", made.phases, made.last),
+            Action::Ends { why, hint, .. } => object!(text, line, "record": &"refused", why, hint),
         }
     }
 }
 
-/// A hint, behind the number of the line that has the fault.
 impl ToJson for (usize, String) {
     ghost json = { json_of_hint };
 
@@ -88,7 +83,6 @@ impl ToJson for RouterRecord {
     }
 }
 
-/// An interface of a router, with the number of its link.
 impl ToJson for (Interface, Option<u16>) {
     ghost json = { json_of_interface };
 
@@ -210,7 +204,6 @@ impl ToJson for Note {
     }
 }
 
-/// Why an offer is adopted or not, by the name of the row.
 impl ToJson for OfferRecord {
     ghost json = { json_of_offer };
 
@@ -272,7 +265,6 @@ impl ToJson for Destination {
     }
 }
 
-/// A datagram that was sent, with its number.
 impl<'a> ToJson for (usize, &'a Sent) {
     ghost json = { json_of_sent };
 

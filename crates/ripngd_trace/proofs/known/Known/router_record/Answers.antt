@@ -15,7 +15,7 @@ returns-clause-tells c =
     let config = c.args.router.now.config in
     let numbered = YieldsList-from_enumerate (YieldsList-at c.enumerate-numbered.ensures.source (YieldsList-from_slice config.interfaces (c.iter.ensures.rest ∙ c.interfaces.ensures.value ∙ ap (λ (k : Config). k.interfaces) c.config-config.ensures))) c.enumerate-numbered.ensures.count in
     let listed = items_from_collect c.collect.result c.collect.ensures.ran
-    (YieldsList-from_map _ (interface_record c.args.lab.now c.args.number) (YieldsList-at c.map.ensures.source numbered) c.map.ensures.closure (λ x r q k. search rules)) in
+    (YieldsList-from_map _ (interface_record c.args.lab.now c.args.number) (YieldsList-at c.map-linked.ensures.source numbered) c.map-linked.ensures.closure (λ x r q k. search rules)) in
     λ is. record {
       state = c.args.router.now;
       state_is = is;
