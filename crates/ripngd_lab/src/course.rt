@@ -209,6 +209,7 @@ impl Course {
         self.tell(Notice::Datagrams(self.site.running(), asked), watch)
     }
 
+    /// A line that expects something of a table.
     fn expect(&self, line: &Line<'_>) -> Outcome {
         let expected = Expected {
             router: line.router,
@@ -218,10 +219,12 @@ impl Course {
         meet(self.site.running(), expected)
     }
 
+    /// Where the packets of a line go.
     fn way(&self, line: &Line<'_>) -> Result<Way, Stop> {
         Way::of(self.site.running(), &self.outages, line.router, line.addr)
     }
 
+    /// A line that expects what becomes of packets.
     fn expect_fate(&self, line: &Line<'_>) -> Outcome {
         let way = self.way(line)?;
         if way.fate() == line.fate {
@@ -235,6 +238,7 @@ impl Course {
         }))
     }
 
+    /// A router is silent from now on, or no longer.
     fn set_silent(&mut self, router: usize, silent: bool) -> Outcome
         ensures there { OnOk result (router < length (value_of self.old.site).network) }
         ensures set { OnOk result (self.new.outages.silent.items ≡ with_member silent router self.old.outages.silent.items) }
@@ -246,6 +250,7 @@ impl Course {
         Ok(set_member(&mut self.outages.silent, router, silent)?)
     }
 
+    /// A link is cut from now on, or no longer.
     fn set_cut(&mut self, line: &Line<'_>, cut: bool) -> Outcome
         ensures set { OnOk result (self.new.outages.cut.items ≡ with_member cut line.entry.now.link self.old.outages.cut.items) }
         ensures site { self.new.site ≡ self.old.site }

@@ -83,6 +83,7 @@ impl<'a> Known<'a> {
         })
     }
 
+    /// What a reader has to learn of a router. Then the router is known.
     fn news_at(&mut self, lab: &Network, router: usize) -> Result<News, AllocError>
         ensures listed { IfOk result (λ news. IfSome (slice_get self.old.routers.items router) (λ before. IfSome (slice_get lab.now.world.states router) (λ state.
             LeadsTo before.table news.routes.items news.gone.items state.table))) }
@@ -237,6 +238,7 @@ fn sender_at<'e>(lab: &'e Network, event: &Event<'_>) -> Option<(&'e Sent, Optio
     Some((sent, addr_at(lab, sent.router, sent.iface)))
 }
 
+/// The datagrams that were sent from a number on, in order, each with its own.
 fn sent_since(alloc: Global, lab: &Network, first: usize) -> Result<Vec<(usize, &Sent)>, AllocError>
     ensures { IfOk result (λ records. map sent_said records.items ≡ sent_from first lab.now.world.sent) }
 {
@@ -264,6 +266,7 @@ fn update_of(lab: &Network, known: &[KnownRouter], event: &Event<'_>) -> Option<
     }
 }
 
+/// Whether one of the notes is of the entry at a place.
 fn is_noted(notes: &[Note], place: usize) -> bool
     ensures { result ≡ is_noted notes.now place }
 {

@@ -291,6 +291,7 @@ impl<'a, 'b> Display for EventRecord<'a, 'b> {
     }
 }
 
+/// Writes what was offered, skipped, changed, deleted and sent.
 fn write_told<W: Write>(record: &EventRecord<'_, '_>, f: &mut Formatter<W>) -> fmt::Result {
     for offer in &record.offers {
         let (prefix, metric) = (offer.prefix, offer.metric);

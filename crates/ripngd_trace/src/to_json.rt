@@ -17,6 +17,7 @@ use std::io::{self, ErrorKind, Write};
 pub struct JsonText {
     alloc: Global,
     writer: Writer,
+    /// Whether memory ran out.
     refused: bool,
 }
 
@@ -83,6 +84,7 @@ impl Members for () {
     }
 }
 
+/// A member by its name and its value, and those after it.
 impl<'a, T: ToJson, R: Members> Members for (&'static str, &'a T, R) {
     ghost members = { λ m. member m.0.now (T.json m.1.now) (R.members m.2) };
 
@@ -92,6 +94,7 @@ impl<'a, T: ToJson, R: Members> Members for (&'static str, &'a T, R) {
     }
 }
 
+/// Writes an object to a text.
 macro_rules! object {
     ($text:ident, $($members:tt)*) => {
         $text.object(&$crate::to_json::members!($($members)*))
@@ -204,6 +207,7 @@ impl<T: ToJson> ToJson for Option<T> {
     }
 }
 
+/// Writes a list, in order.
 fn write_list<T: ToJson>(values: &[T], text: &mut JsonText)
     ensures { Grows text.old text.new (json_tokens (list_of T.json values.now)) }
 {

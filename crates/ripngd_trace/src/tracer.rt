@@ -44,6 +44,7 @@ pub fn explain<W: Write>(
     observed(alloc, script, Form::English, changes_only, out)
 }
 
+/// Runs a script, and writes a record of each thing that happens.
 fn observed<W: Write>(
     alloc: Global,
     script: &[u8],

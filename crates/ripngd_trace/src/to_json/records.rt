@@ -67,6 +67,7 @@ impl<'a> ToJson for AsideRecord<'a> {
     }
 }
 
+/// A hint, behind the number of the line that has the fault.
 impl ToJson for (usize, String) {
     ghost json = { json_of_hint };
 
@@ -83,6 +84,7 @@ impl ToJson for RouterRecord {
     }
 }
 
+/// An interface of a router, with the number of its link.
 impl ToJson for (Interface, Option<u16>) {
     ghost json = { json_of_interface };
 
@@ -204,6 +206,7 @@ impl ToJson for Note {
     }
 }
 
+/// Why an offer is adopted or not, by the name of the row.
 impl ToJson for OfferRecord {
     ghost json = { json_of_offer };
 
@@ -265,6 +268,7 @@ impl ToJson for Destination {
     }
 }
 
+/// A datagram that was sent, with its number.
 impl<'a> ToJson for (usize, &'a Sent) {
     ghost json = { json_of_sent };
 
