@@ -39,8 +39,9 @@ copy() {
 
 copy "$folder" "$way" "$crate"
 if [ "$crate" = ripngd_program ]; then
-    # The crates up to the trace stand one on another and take longest, so a run of their own gives each of them all processors. The
-    # daemon's are proved beside them by what these leave free. The kit keeps what both prove for the last run.
+    # The crates up to the trace stand one on another and take longest, so a run of their own gives each of them all processors. Once
+    # the router's core is proved, the daemon's are proved beside them by what these leave free. The kit keeps all for the last run.
+    (cd "$folder" && rt ci router_core) || true
     copy "$room/daemon" below ripngd_daemon
     (cd "$room/daemon" && exec nice -n 19 rt ci > /dev/null 2>&1) &
     (cd "$folder" && rt ci ripngd_trace) || true
