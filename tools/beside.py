@@ -10,8 +10,8 @@ it prints what a route cost in microseconds of processor time (as the scheduler 
 runs, and the ratio of the two daemons in each run. The peak is the most that was resident until the end of a regular update on two
 interfaces, on one of which nobody listens; it is a run of its own. What is told is in the middle of at least three updates of each run.
 Idle is a daemon that nobody talks to, at one interface and at sixteen, the most that PROGRAM may have. Meanwhile each processor is kept
-awake by work that gives way to all other: else much of a row is what it takes to wake one, which is the machine's. Needs root, `ip` and
-BIRD 2 (Debian's packages iproute2 and bird2); where one is wanting it says `skipped: ..`. A round takes some ten minutes: regular updates
+awake by work that gives way to all other: else much of a row is what it takes to wake one, which is the machine's. Needs root, `ip`,
+`cc` and BIRD 2 (Debian's packages iproute2, gcc and bird2); where one is wanting it says `skipped: ..`. A round takes some ten minutes: regular updates
 are up to 45 seconds apart."""
 
 import contextlib
@@ -232,10 +232,12 @@ def running(command):
 
 
 @contextlib.contextmanager
-def awake():
-    """No processor sleeps: on each a small process spins that runs only where nothing else does."""
-    spins = ["chrt", "--idle", "0", "sh", "-c", "while :; do :; done"]
-    spinners = [subprocess.Popen(spins) for _ in range(os.cpu_count() or 1)]
+def awake(folder):
+    """No processor sleeps: on each a small process spins that runs only where nothing else does, and that leaves the core to its other
+    thread."""
+    spins = folder / "spins"
+    subprocess.run(["cc", "-x", "c", "-o", spins, "-"], input="int main() { for (;;) __builtin_ia32_pause(); }", text=True, check=True)
+    spinners = [subprocess.Popen(["chrt", "--idle", "0", spins]) for _ in range(os.cpu_count() or 1)]
     try:
         yield
     finally:
@@ -342,17 +344,18 @@ def show(runs, routes):
 def main():
     if sys.argv[1:2] == ["--neighbor"]:
         return neighbor_of_bird(sys.argv[2], int(sys.argv[3]), int(sys.argv[4]))
-    lacks = [name for name in ("ip", "bird") if not shutil.which(name)] + (["root"] if os.geteuid() else [])
+    lacks = [name for name in ("ip", "cc", "bird") if not shutil.which(name)] + (["root"] if os.geteuid() else [])
     if lacks:
         return print(f"skipped: there is no {lacks[0]}")
     program, routes, times = [*sys.argv[1:], *[ROOT / "bin/ripngd", 65536, 3][len(sys.argv) - 1 :]]
     remove_spaces()
     try:
         make_spaces()
-        with awake(), tempfile.TemporaryDirectory() as folder:
+        with tempfile.TemporaryDirectory() as folder:
             here = pathlib.Path(folder)
             routers = (Ours(program, here), Bird(here))
-            runs = [[rows_of(router, int(routes)) for router in routers] for _ in range(int(times))]
+            with awake(here):
+                runs = [[rows_of(router, int(routes)) for router in routers] for _ in range(int(times))]
     finally:
         remove_spaces()
     show(runs, int(routes))

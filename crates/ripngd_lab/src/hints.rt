@@ -179,11 +179,12 @@ fn hint_of_word(alloc: Global, line: &str, form: usize, place: usize, wrong: Wro
 }
 
 /// The number, from 1, of the line with the fault of a network that is refused at the line `cold`, and what the line should have been.
-/// It is the first line, of a router that is named, such that the network of the lines up to it is refused for the same reason. With a
-/// line of prefixes all routers and interfaces count, with another one no prefixes do.
+/// It is the first line, of a router that is named, such that the network of the lines up to it is refused for the same reason. Where
+/// no prefix is at fault none counts, and else all routers and interfaces do.
 fn fault(alloc: Global, script: &[u8], cold: usize, refused: NetRefused) -> Found<(usize, String)> {
     let mut context = Context::new(alloc);
     let mut routers = 0_usize;
+    let of_prefix = refusal_of(alloc, script, cold, 0)? != Some(refused);
     for (place, text) in script.split(|byte| *byte == b'\n').take(cold).enumerate() {
         if let Ok(line) = read_line(words_in(text), &mut context) {
             routers = routers.saturating_add(usize::from(matches!(line.verb, Verb::Router(_))));
@@ -192,11 +193,15 @@ fn fault(alloc: Global, script: &[u8], cold: usize, refused: NetRefused) -> Foun
                 _ => true,
             };
             let number = place.saturating_add(1);
-            let (listed, owned) = match line.verb {
-                Verb::Prefixes => (cold, number),
-                _ => (number, 0),
+            let (listed, owned) = if of_prefix {
+                (cold, number)
+            } else {
+                (number, 0)
             };
-            if is_of_router && refusal_of(alloc, script, listed, owned)? == Some(refused) {
+            if is_of_router
+                && (line.verb == Verb::Prefixes) == of_prefix
+                && refusal_of(alloc, script, listed, owned)? == Some(refused)
+            {
                 let meaning = String::from_str(alloc, meaning_of_network(refused))?;
                 return Ok(Some((number, meaning)));
             }

@@ -49,24 +49,24 @@ fn first_of(routes: &[(Prefix, Route)], other: Prefix) -> Prefix
     }
 }
 
-/// How many routes were changed or removed since the bound was exact, after one more. After as many as there are it begins anew, and
-/// the bound is made exact: a pass over all, in whatever order, ends so, and costs no more than one look at each.
-fn count_more(changes: usize, len: usize) -> usize {
+/// How many routes were changed or removed since the bound was exact, after one more before an index, and whether the bound is now made
+/// exact. That is so after as many as there are, so that a pass over all, in whatever order, ends so and costs no more than one look at
+/// each; and at the last route, where a pass in order ends, even if some routes were changed out of turn.
+fn count_more(changes: usize, next: usize, len: usize) -> (usize, bool) {
     let count = changes.saturating_add(1);
-    if count < len { count } else { 0 }
+    if count < len && next < len {
+        (count, false)
+    } else {
+        (0, true)
+    }
 }
 
-/// A bound of these routes after one before an index was changed or removed. It is exact where the count has begun anew, and at the
-/// last route: a pass in order ends there, even if some routes were changed out of turn.
-fn bound_of(routes: &[(Prefix, Route)], next: usize, changes: usize, bound: Summary) -> Summary
+/// A bound of these routes, given one, which may be made exact.
+fn bound_of(routes: &[(Prefix, Route)], is_exact: bool, bound: Summary) -> Summary
     requires { Covers bound routes.now }
     ensures { Covers result routes.now }
 {
-    if changes == 0 || next >= routes.len() {
-        run::sum_up(routes)
-    } else {
-        bound
-    }
+    if is_exact { run::sum_up(routes) } else { bound }
 }
 
 impl Block {
@@ -296,11 +296,18 @@ impl Block {
         ensures { (it : ChangesEntry (FnOnceReturnsAtMut F.FnOnce change) prefix.now self.old result.0 self.new) × (result.1 ≡ summary_of_route it.after) }
     {
         let route = &mut self.routes[at].1;
+        let before = Summary::of(route);
         let answer = change(route);
         let summary = Summary::of(route);
         let bound = self.bound.and(summary);
-        self.changes = count_more(self.changes, self.routes.len());
-        self.bound = bound_of(&self.routes, at.saturating_add(1), self.changes, bound);
+        // Where the summary stays, the bound is as exact as before.
+        let (changes, is_exact) = if summary.is_same(&before) {
+            (self.changes, false)
+        } else {
+            count_more(self.changes, at.saturating_add(1), self.routes.len())
+        };
+        self.changes = changes;
+        self.bound = bound_of(&self.routes, is_exact, bound);
         (answer, summary)
     }
 
@@ -324,7 +331,8 @@ impl Block {
     {
         let _ = self.routes.remove(at);
         self.first = first_of(&self.routes, self.first);
-        self.changes = count_more(self.changes, self.routes.len());
-        self.bound = bound_of(&self.routes, at, self.changes, self.bound);
+        let (changes, is_exact) = count_more(self.changes, at, self.routes.len());
+        self.changes = changes;
+        self.bound = bound_of(&self.routes, is_exact, self.bound);
     }
 }

@@ -2,12 +2,13 @@
 //! adoption that applies is [`crate::Reason`], and the lemma [`crate::adopted_by_row`] joins the two.
 
 ghost use Rattle.std.specs.Prelude.{◌≡◌, ◌≤◌, ◌<◌, IsTrue, None, Some};
-ghost use Rattle.router_core.specs.Common.{IsRoute, infinity, Live, change, metric_through, is_reachable, taken, refreshed, is_through, is_repeated, is_preferred, adopted_by_clock, adopted, Gateway as GatewayValue, Offer as OfferValue};
+ghost use Rattle.router_core.specs.Common.{IsRoute, infinity, Live, metric_through, is_reachable, taken, refreshed, is_through, is_repeated, is_preferred, adopted_by_clock, adopted, Gateway as GatewayValue, Offer as OfferValue};
+ghost use Rattle.router_core.specs.Changes.{forward};
+ghost use Rattle.fib.specs.Forwarding.{same_forward};
 
-use crate::forwarding::change;
+use crate::forwarding::forward;
 use crate::timers::{GARBAGE_TIME_MS, HALF_TIMEOUT_MS, TIMEOUT_MS};
-use fib::RouteChange;
-use prefix6::{Addr6, Prefix};
+use prefix6::Addr6;
 use route_table::{Clock, Deadline, INFINITY, Moment, Origin, Route};
 use std::marker::Model;
 
@@ -144,10 +145,10 @@ impl Gateway {
     }
 
     /// Whether the offer repeats a valid route of its own gateway. Then only the timeout starts anew.
-    fn is_renewal(&self, offer: &Offer, route: Route) -> bool
-        ensures lawful { IsRoute route }
+    fn is_renewal(&self, offer: &Offer, route: &Route) -> bool
+        ensures lawful { IsRoute route.now }
         ensures usable { IsTrue result → metric_through self.now offer.now < infinity }
-        ensures same { IsTrue result → route ≡ record (taken self.now offer.now) { clock = route.clock; changed = route.changed } }
+        ensures same { IsTrue result → route.now ≡ record (taken self.now offer.now) { clock = route.now.clock; changed = route.now.changed } }
     {
         match route.origin() {
             Origin::Own => false,
@@ -167,18 +168,30 @@ impl Gateway {
         }
     }
 
-    /// What the offer makes of the route to its prefix, and the change of the forwarding entry, if it changes.
-    pub fn adopt(&self, prefix: Prefix, offer: &Offer, route: &mut Route) -> Option<RouteChange>
-        ensures route { route.new ≡ adopted_by_clock self.now offer.now route.old route.old.clock }
-        ensures change { result ≡ change prefix (Some route.old) (Some route.new) }
+    /// Whether the offer is that of another gateway and no better than the route, which then stays as it is (section 2.4.2). Most
+    /// offers on a link of many routers are so: their routes lead back over it, and come at metric 16.
+    fn is_ignored(&self, offer: &Offer, route: &Route) -> bool
+        ensures { IsTrue result → adopted_by_clock self.now offer.now route.now route.now.clock ≡ route.now }
     {
-        let before = *route;
-        if self.is_renewal(offer, before) {
-            *route = before.renewed(self.moment.later(TIMEOUT_MS));
-            return None;
+        let offered = self.metric_through(offer);
+        (route.metric() < offered || offered >= INFINITY) && !self.is_through(route.origin())
+    }
+
+    /// What the offer makes of the route to its prefix. The result says whether the forwarding entry stays the same.
+    pub fn adopt(&self, offer: &Offer, route: &mut Route) -> bool
+        ensures route { route.new ≡ adopted_by_clock self.now offer.now route.old route.old.clock }
+        ensures entry { result ≡ same_forward (forward route.old) (forward route.new) }
+    {
+        if self.is_ignored(offer, route) {
+            return true;
         }
+        if self.is_renewal(offer, route) {
+            *route = route.renewed(self.moment.later(TIMEOUT_MS));
+            return true;
+        }
+        let before = *route;
         *route = self.adopt_by_clock(offer, before);
-        change(prefix, Some(before), Some(*route))
+        forward(Some(before)) == forward(Some(*route))
     }
 
     /// The route after the offer, where one is held.

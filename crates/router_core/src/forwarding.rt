@@ -1,6 +1,7 @@
 //! The changes of forwarding entries that follow from changes of routes.
 
 ghost use Rattle.std.specs.Prelude.{◌≡◌, option_map, option_and_then};
+ghost use Rattle.fib.specs.Forwarding.{change_to};
 ghost use Rattle.router_core.specs.Changes.{hop_of, forward, change};
 
 use fib::{Hop, RouteChange};
@@ -22,7 +23,7 @@ fn hop_of(origin: Origin) -> Hop
 }
 
 /// Hop and metric of a route, if it is reachable. An unreachable one is advertised still, but not used (RFC 2080, section 2.3).
-fn forward(route: Option<Route>) -> Option<(Hop, u8)>
+pub fn forward(route: Option<Route>) -> Option<(Hop, u8)>
     ensures { result ≡ option_map (λ f. (f.hop, f.metric)) (option_and_then forward route) }
 {
     let route = route?;
@@ -33,22 +34,29 @@ fn forward(route: Option<Route>) -> Option<(Hop, u8)>
     }
 }
 
+/// The change after which a prefix has this hop and metric, or no entry.
+pub fn change_to(prefix: Prefix, after: Option<(Hop, u8)>) -> RouteChange
+    ensures { result ≡ change_to prefix (option_map (λ f. record { hop = f.0; metric = f.1 }) after) }
+{
+    match after {
+        Some((hop, metric)) => RouteChange::Install {
+            prefix,
+            hop,
+            metric,
+        },
+        None => RouteChange::Withdraw { prefix },
+    }
+}
+
 /// The change of a prefix's forwarding entry from one route to another, if the entry differs.
 pub fn change(prefix: Prefix, old: Option<Route>, new: Option<Route>) -> Option<RouteChange>
     ensures { result ≡ change prefix old new }
 {
-    // A refreshed route that goes the same way at the same metric changes no entry.
     let before = forward(old);
     let after = forward(new);
     if before == after {
-        return None;
-    }
-    match after {
-        Some((hop, metric)) => Some(RouteChange::Install {
-            prefix,
-            hop,
-            metric,
-        }),
-        None => Some(RouteChange::Withdraw { prefix }),
+        None
+    } else {
+        Some(change_to(prefix, after))
     }
 }

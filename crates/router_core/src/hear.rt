@@ -9,7 +9,7 @@ use crate::adopt::{Gateway, Offer};
 use crate::answer::{Note, NoteKind};
 use crate::config::RouterConfig;
 use crate::entries::{judge, usable_hop};
-use crate::forwarding::change;
+use crate::forwarding::{change, change_to, forward};
 use fib::RouteChange;
 use prefix6::{Addr6, Prefix};
 use ripng_wire::{NEXT_HOP_METRIC, Rte, Rtes};
@@ -82,8 +82,8 @@ fn meet_first<S: RouteStore>(
     Ok(change(prefix, None, Some(first)))
 }
 
-/// One offer is processed: the change of the forwarding entry, or why its first route to a prefix cannot be added. The store is
-/// searched once where it has a route to the prefix.
+/// One offer is processed: the change of the forwarding entry, or why its first route to a prefix cannot be added. Where the store has
+/// a route to the prefix, it is searched once, and once more where the entry changes.
 fn meet<S: RouteStore>(
     store: &mut S,
     gateway: &Gateway,
@@ -98,11 +98,10 @@ fn meet<S: RouteStore>(
     ensures new { OnErr result (IsTrue (adds (meeting gateway.now offer.now prefix (S.table store.old)))) }
     ensures refusal { IfErr result (λ kind. kind ≡ refusal_of_new (S.table store.old)) }
 {
-    match store.update(
-        &prefix,
-        |route: &mut Route| gateway.adopt(prefix, offer, route),
-    ) {
-        Some(change) => Ok(change),
+    match store.update(&prefix, |route: &mut Route| gateway.adopt(offer, route)) {
+        // A route that goes the same way at the same metric changes no entry.
+        Some(true) => Ok(None),
+        Some(false) => Ok(Some(change_to(prefix, forward(store.get(&prefix))))),
         None => meet_first(store, gateway, prefix, offer),
     }
 }
