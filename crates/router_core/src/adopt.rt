@@ -168,8 +168,8 @@ impl Gateway {
         }
     }
 
-    /// Whether the offer is that of another gateway and no better than the route, which then stays as it is (section 2.4.2). Most
-    /// offers on a link of many routers are so: their routes lead back over it, and come at metric 16.
+    /// Whether the offer is of another gateway, and unreachable or worse than the route: the route then stays as it is (section 2.4.2).
+    /// Most offers on a link of many routers are so: their routes lead back over it, and come at metric 16.
     fn is_ignored(&self, offer: &Offer, route: &Route) -> bool
         ensures { IsTrue result → adopted_by_clock self.now offer.now route.now route.now.clock ≡ route.now }
     {
