@@ -11,8 +11,8 @@ runs, and the ratio of the two daemons in each run. The peak is the most that wa
 interfaces, on one of which nobody listens; it is a run of its own. What is told is in the middle of at least three updates of each run.
 Idle is a daemon that nobody talks to, at one interface and at sixteen, the most that PROGRAM may have. Meanwhile each processor is kept
 awake by work that gives way to all other: else much of a row is what it takes to wake one, which is the machine's. Needs root, `ip`,
-`cc` and BIRD 2 (Debian's packages iproute2, gcc and bird2); where one is wanting it says `skipped: ..`. A round takes some ten minutes: regular updates
-are up to 45 seconds apart."""
+`cc` and BIRD 2 (Debian's packages iproute2, gcc and bird2); where one is wanting it says `skipped: ..`. A round takes some ten minutes:
+regular updates are up to 45 seconds apart."""
 
 import contextlib
 import os
@@ -57,7 +57,7 @@ ROWS = (
 )
 # The most interfaces that a daemon is measured with, and for how many seconds nobody talks to it.
 MOST = 16
-IDLE_FOR = 10
+IDLE_FOR = 20
 # The name spaces of neighbor and BIRD, and the ends of each link between them.
 SPACES = ("ripngd-beside-a", "ripngd-beside-b")
 PAIRS = [(f"a{number}", f"b{number}") for number in range(MOST)]
@@ -338,7 +338,7 @@ def show(runs, routes):
         mine, theirs = [run[0][row] for run in runs], [run[1][row] for run in runs]
         ratios = sorted(one / other for one, other in zip(mine, theirs) if other > 0)
         said = f"{statistics.median(ratios):.2f} ({ratios[0]:.2f} to {ratios[-1]:.2f})" if ratios else "BIRD takes nothing"
-        print(f"{title:44}{statistics.median(mine):10.2f}{statistics.median(theirs):10.2f}   {said}")
+        print(f"{title:44}{statistics.median(mine):10.3f}{statistics.median(theirs):10.3f}   {said}")
 
 
 def main():

@@ -1,7 +1,7 @@
 //! The queue of datagrams that an interface has received and the router has not processed yet. A socket's buffer is small, so it is
 //! emptied into this queue while the router works. Each interface has its own: a neighbor that floods one cannot fill another.
 
-ghost use Rattle.std.specs.Prelude.{◌≡◌, ◌≤◌, ◌↔◌, [], MatchOption, IfSome, IsTrue, is_ok, length, min, take};
+ghost use Rattle.std.specs.Prelude.{◌≡◌, ◌≤◌, ◌↔◌, [], MatchOption, IfOk, IfSome, IsTrue, is_ok, length, min, take};
 ghost use Rattle.ripngd_udp.specs.Common.{Gives, HasRoom, Keeps, MayWait, bytes_of};
 
 use ripngd_engine::{Peer, Received};
@@ -13,6 +13,12 @@ const ROOM: usize = 16_384;
 
 /// How many bytes they have together at most, 32 MiB: 16,384 datagrams of 2,048 bytes, longer than those of updates.
 const ROOM_BYTES: usize = 32 << 20;
+
+/// For how many datagrams that come later there is room that earlier ones have left: as many as come together at the pace of neighbors.
+const SPARES: usize = 64;
+
+/// How long the room of a datagram is at most that is kept for others, in bytes: longer than any of an update.
+const SPARE_LEN: usize = 2_048;
 
 /// A datagram of a neighbor.
 #[derive(Drop)]
@@ -27,6 +33,8 @@ pub(crate) struct ReceiveQueue {
     waiting: VecDeque<Datagram>,
     /// How many bytes they have together.
     held: usize,
+    /// The room of datagrams that were given out, for those that come later.
+    spares: Vec<Vec<u8>>,
     alloc: Global,
     ghost summed: { held ≡ bytes_of waiting.items },
     ghost room: { MayWait waiting.items },
@@ -48,6 +56,7 @@ impl ReceiveQueue {
         ReceiveQueue {
             waiting: VecDeque::new(alloc),
             held: 0,
+            spares: Vec::new(alloc),
             alloc,
         }
     }
@@ -64,6 +73,18 @@ impl ReceiveQueue {
         self.waiting.len() < ROOM && len <= ROOM_BYTES - self.held
     }
 
+    /// A copy of these bytes, in room that an earlier datagram has left, if there is any.
+    fn copy_of(&mut self, bytes: &[u8]) -> Result<Vec<u8>, AllocError>
+        ensures copy { IfOk result (λ copy. copy.items ≡ bytes.now) }
+        ensures waiting { self.new.waiting ≡ self.old.waiting }
+        ensures held { self.new.held ≡ self.old.held }
+    {
+        let mut copy = self.spares.pop().unwrap_or(Vec::new(self.alloc));
+        copy.clear();
+        copy.extend_from_slice(bytes)?;
+        Ok(copy)
+    }
+
     /// Adds a datagram of a neighbor at the end, and returns whether there was room and memory for it. If not, only this datagram is
     /// lost.
     pub(crate) fn keep(&mut self, peer: Peer, bytes: &[u8]) -> bool
@@ -78,10 +99,21 @@ impl ReceiveQueue {
         ensures { Keeps self.old.waiting.items self.new.waiting.items peer bytes.now (is_ok result) }
     {
         let len = bytes.len();
-        let bytes = Vec::from_slice(self.alloc, bytes)?;
+        let bytes = self.copy_of(bytes)?;
         self.waiting.push_back(Datagram { peer, bytes })?;
         self.held += len;
         Ok(())
+    }
+
+    /// Keeps the room of a datagram that was given out, if it is of use: to take memory anew for each costs more than to copy
+    /// its bytes.
+    fn spare(&mut self, room: Vec<u8>)
+        ensures waiting { self.new.waiting ≡ self.old.waiting }
+        ensures held { self.new.held ≡ self.old.held }
+    {
+        if self.spares.len() < SPARES && room.capacity() <= SPARE_LEN {
+            let _ = self.spares.push(room);
+        }
     }
 
     /// Takes out the first datagram: its bytes go into a buffer, as many as fit, and it is described as one that came to `iface`.
@@ -94,6 +126,7 @@ impl ReceiveQueue {
         let Datagram { peer, bytes } = self.waiting.pop_front()?;
         self.held -= bytes.len();
         let len = copy_into(buffer, bytes.as_slice());
+        self.spare(bytes);
         Some(Received {
             iface,
             source: peer.addr,

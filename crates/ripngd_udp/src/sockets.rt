@@ -40,13 +40,18 @@ impl<R: Clock> Udp<'_, R> {
             .min()
     }
 
+    /// Whether no datagram waits for the router, and no socket need be read.
+    fn is_quiet(&self) -> bool {
+        self.endpoints.iter().all(|endpoint| endpoint.is_quiet())
+    }
+
     /// How many milliseconds may be waited at a moment of a turn that ends at `end`: none where a datagram waits or a socket is to be
     /// read, or else to its end, or until more may be sent.
     fn limit(&self, now: u64, end: u64) -> u64
         ensures { result ≤ 400 }
     {
         let left = end.saturating_sub(now).min(self.pause);
-        if !self.endpoints.iter().all(|endpoint| endpoint.is_quiet()) {
+        if !self.is_quiet() {
             return 0;
         }
         left.min(self.until_due(now).unwrap_or(left))
@@ -85,7 +90,7 @@ impl<R: Clock> Udp<'_, R> {
             return self.poll(limit);
         }
         self.poll(0)?;
-        if self.was_called || !self.endpoints.iter().all(|endpoint| endpoint.is_quiet()) {
+        if self.was_called || !self.is_quiet() {
             return Ok(());
         }
         thread::sleep(self.rt, Duration::from_millis(limit.min(GATHER_MS)));
@@ -132,6 +137,34 @@ impl<R: Clock> Udp<'_, R> {
         received
     }
 
+    /// Sends as much of what waits as the pace allows at a moment of a turn that ends at `end`. Then it waits for a datagram, and takes
+    /// it. Where nothing waits and nothing comes, nothing else is done: this is all that most turns of a quiet network are.
+    ///
+    /// # Errors
+    /// A socket could not be read, or the system cannot wait for them.
+    fn look(
+        &mut self,
+        buffer: &mut [u8],
+        moment: u64,
+        end: u64,
+    ) -> Result<Option<Received>, LinkFault>
+        ensures interface { IfOk result (λ o. IfSome o (λ r. r.iface < self.old.interfaces)) }
+        ensures within { IfOk result (λ o. IfSome o (λ r. r.len ≤ length buffer.new)) }
+        ensures goes_on { GoesOn self.old self.new }
+    {
+        let mut now = moment;
+        if self.until_due(now).is_some() {
+            self.send_waiting(Some(now));
+            now = self.clock.now().ms();
+        }
+        self.wait(self.limit(now, end))?;
+        if self.is_quiet() {
+            return Ok(None);
+        }
+        self.take_all(buffer)?;
+        Ok(self.take_next(buffer))
+    }
+
     /// The next datagram: one that is there, or else the first that comes in time, or before what is watched has something to read.
     /// Meanwhile what waits is sent at its pace. While datagrams wait, sockets are looked at once in a millisecond.
     ///
@@ -143,24 +176,20 @@ impl<R: Clock> Udp<'_, R> {
         ensures goes_on { GoesOn self.old self.new }
     {
         let end = self.since.saturating_add(self.pause);
+        let mut now = self.clock.now().ms();
         self.was_called = false;
-        if self.clock.now().ms() == self.since
+        if now == self.since
             && let Some(received) = self.take_next(buffer)
         {
             return Ok(Some(received));
         }
         for _ in 0..LOOKS {
-            let moment = self.clock.now().ms();
-            self.send_waiting(Some(moment));
-            let now = self.clock.now().ms();
-            let limit = self.limit(now, end);
-            self.wait(limit)?;
-            self.take_all(buffer)?;
-            let given = self.take_next(buffer);
+            let given = self.look(buffer, now, end)?;
+            now = self.clock.now().ms();
+            self.since = now;
             self.was_silent = given.is_none();
             self.is_busy = given.is_some();
-            self.since = self.clock.now().ms();
-            if given.is_some() || self.was_called || self.since >= end {
+            if given.is_some() || self.was_called || now >= end {
                 return Ok(given);
             }
         }
