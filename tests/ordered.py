@@ -64,16 +64,16 @@ class Ordered(Router):
         return [limit for _, _, limit, _ in self.calls("wait")]
 
     def ticks(self):
-        """When it ticked before it waited again, in milliseconds, where its readings of the clock are watched. The link reads it four times
-        for each wait, once behind it and three times before the next; each step of the router reads it once more, and the last step of
-        a turn is a tick."""
+        """When it ticked before it waited again, in milliseconds, where its readings of the clock are watched. The link reads it once
+        behind each wait and once before the next, if nothing waits to be sent; each step of the router reads it once more, and the last
+        step of a turn is a tick."""
         found, readings = [], []
         for line in self.case.read(f"{self.name}.calls").splitlines():
             moment, call = line.split()[:2]
             if call == "clock":
                 readings.append(int(moment))
             elif call == "wait":
-                found += readings[-4:-3] if len(readings) > 4 else []
+                found += readings[-2:-1] if len(readings) > 2 else []
                 readings = []
         return found
 
