@@ -9,9 +9,9 @@ advertises them again, at 1 and at 0.5 ms between datagrams, in order and in an 
 it prints what a route cost in microseconds of processor time (as the scheduler counts it) and in bytes of memory, in the middle of all
 runs, and the ratio of the two daemons in each run. The peak is the most that was resident until the end of a regular update on two
 interfaces, on one of which nobody listens; it is a run of its own. What is told is in the middle of at least three updates of each run.
-Idle is a daemon that nobody talks to, at one interface and at sixteen, the most that PROGRAM may have. Meanwhile each processor is kept
-awake by work that gives way to all other: else much of a row is what it takes to wake one, which is the machine's. Needs root, `ip`,
-`cc` and BIRD 2 (Debian's packages iproute2, gcc and bird2); where one is wanting it says `skipped: ..`. A round takes some ten minutes:
+Idle is a daemon that nobody talks to, at one interface and at sixteen, the most that PROGRAM may have; the last line is what a program
+takes that only waits as often as PROGRAM does. Meanwhile each processor is kept awake by work that gives way to all other: else much of
+a row is what it takes to wake one, which is the machine's. Needs root, `ip`, `cc` and BIRD 2 (Debian's packages iproute2, gcc and bird2); where one is wanting it says `skipped: ..`. A round takes some ten minutes:
 regular updates are up to 45 seconds apart."""
 
 import contextlib
@@ -58,6 +58,10 @@ ROWS = (
 # The most interfaces that a daemon is measured with, and for how many seconds nobody talks to it.
 MOST = 16
 IDLE_FOR = 20
+# A program that keeps a processor awake and leaves its core to the other thread, and one that only waits, as often as PROGRAM at rest.
+SPINS = "int main() { for (;;) __builtin_ia32_pause(); }"
+WAITS = """#include <sys/epoll.h>
+int main() { struct epoll_event event; int waiting = epoll_create1(0); for (;;) epoll_wait(waiting, &event, 1, 400); }"""
 # The name spaces of neighbor and BIRD, and the ends of each link between them.
 SPACES = ("ripngd-beside-a", "ripngd-beside-b")
 PAIRS = [(f"a{number}", f"b{number}") for number in range(MOST)]
@@ -231,12 +235,16 @@ def running(command):
             daemon.kill()
 
 
+def compiled(source, program):
+    """A program in C."""
+    subprocess.run(["cc", "-x", "c", "-o", program, "-"], input=source, text=True, check=True)
+    return program
+
+
 @contextlib.contextmanager
 def awake(folder):
-    """No processor sleeps: on each a small process spins that runs only where nothing else does, and that leaves the core to its other
-    thread."""
-    spins = folder / "spins"
-    subprocess.run(["cc", "-x", "c", "-o", spins, "-"], input="int main() { for (;;) __builtin_ia32_pause(); }", text=True, check=True)
+    """No processor sleeps: on each a small process spins that runs only where nothing else does."""
+    spins = compiled(SPINS, folder / "spins")
     spinners = [subprocess.Popen(["chrt", "--idle", "0", spins]) for _ in range(os.cpu_count() or 1)]
     try:
         yield
@@ -297,6 +305,18 @@ def rows_of(router, routes):
     return found
 
 
+def waited(program):
+    """What is idle for the program that only waits."""
+    with running([program]) as process:
+        return idle(process)
+
+
+def round_of(ours, bird, waits, routes):
+    """One round: the rows of this router and of BIRD, and what is idle for the program that only waits."""
+    mine, least = rows_of(ours, routes), waited(waits)
+    return mine, rows_of(bird, routes), least
+
+
 def neighbor_of_bird(measure, pid, routes):
     """What the script does in its own name space: the rows, as words."""
     iface = socket.if_nametoindex(PAIRS[0][0])
@@ -339,6 +359,7 @@ def show(runs, routes):
         ratios = sorted(one / other for one, other in zip(mine, theirs) if other > 0)
         said = f"{statistics.median(ratios):.2f} ({ratios[0]:.2f} to {ratios[-1]:.2f})" if ratios else "BIRD takes nothing"
         print(f"{title:44}{statistics.median(mine):10.3f}{statistics.median(theirs):10.3f}   {said}")
+    print(f"{'a program that only waits, ms a second':44}{statistics.median(run[2] for run in runs):10.3f}")
 
 
 def main():
@@ -353,9 +374,9 @@ def main():
         make_spaces()
         with tempfile.TemporaryDirectory() as folder:
             here = pathlib.Path(folder)
-            routers = (Ours(program, here), Bird(here))
+            ours, bird, waits = Ours(program, here), Bird(here), compiled(WAITS, here / "waits")
             with awake(here):
-                runs = [[rows_of(router, int(routes)) for router in routers] for _ in range(int(times))]
+                runs = [round_of(ours, bird, waits, int(routes)) for _ in range(int(times))]
     finally:
         remove_spaces()
     show(runs, int(routes))
