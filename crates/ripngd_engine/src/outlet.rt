@@ -54,7 +54,8 @@ fn hand_over<L: Link, V: TrafficObserver>(
 }
 
 impl<L: Link> Outlet<L> {
-    /// Hands over the datagrams of an answer and reports each, then follows its changes, then writes their lines.
+    /// Hands over the datagrams of an answer and reports each, then follows its changes, then writes their lines. Most answers are those
+    /// of ticks at which nothing is due: they have none of these, and nothing else is looked at.
     ///
     /// # Errors
     /// Out of memory for the forwarding table, which is then unchanged. All else is done all the same.
@@ -69,6 +70,10 @@ impl<L: Link> Outlet<L> {
         ensures ended { self.new.ended ≡ is_err result }
         ensures same { L.interface_count self.new.link ≡ L.interface_count self.old.link }
     {
+        if answer.sends.as_slice().is_empty() && answer.changes.as_slice().is_empty() {
+            self.ended = false;
+            return Ok(());
+        }
         self.lost_sends = hand_over(&mut self.link, answer.sends, self.lost_sends, observer);
         let changes = answer.changes.as_slice();
         let followed = self.fib.apply(changes);

@@ -179,6 +179,7 @@ impl<R: Clock> Udp<'_, R> {
         let mut now = self.clock.now().ms();
         self.was_called = false;
         if now == self.since
+            && !self.was_silent
             && let Some(received) = self.take_next(buffer)
         {
             return Ok(Some(received));
