@@ -11,8 +11,8 @@ runs, and the ratio of the two daemons in each run. The peak is the most that wa
 interfaces, on one of which nobody listens; it is a run of its own. What is told is in the middle of at least three updates of each run.
 Idle is a daemon that nobody talks to, at one interface and at sixteen, the most that PROGRAM may have; the last line is what a program
 takes that only waits as often as PROGRAM does. Meanwhile each processor is kept awake by work that gives way to all other: else much of
-a row is what it takes to wake one, which is the machine's. Needs root, `ip`, `cc` and BIRD 2 (Debian's packages iproute2, gcc and bird2); where one is wanting it says `skipped: ..`. A round takes some ten minutes:
-regular updates are up to 45 seconds apart."""
+a row is what it takes to wake one, which is the machine's. Needs root, `ip`, `cc` and BIRD 2 (Debian's packages iproute2, gcc and
+bird2); where one is wanting it says `skipped: ..`. A round takes some ten minutes: regular updates are up to 45 seconds apart."""
 
 import contextlib
 import os
