@@ -1,5 +1,6 @@
 mod Numbers
 pub mod Entries
 pub mod FirstReason
+pub mod Appending
 pub mod Spellings
 pub mod OneReading

@@ -1,6 +1,6 @@
 //! Datagrams written as bytes (RFC 2080, section 2.1).
 
-ghost use Rattle.std.specs.Prelude.{◌≡◌, ◌≤◌, length, IfOk};
+ghost use Rattle.std.specs.Prelude.{◌≡◌, ◌≤◌, ◌++◌, [], length, IfOk, OnErr, OnOk};
 ghost use Rattle.ripng_wire.specs.Layout.{Fits, Spells, command_byte, entry_bytes};
 
 use crate::rte::{Command, ENTRY_LEN, HEADER_LEN, MAX_ENTRIES, Rte, VERSION};
@@ -15,12 +15,36 @@ pub fn encode(alloc: Global, command: Command, entries: &[Rte]) -> Result<Vec<u8
     requires { length entries.now ≤ MAX_ENTRIES }
     ensures { IfOk result (λ bytes. Spells command entries.now bytes.items) }
 {
-    let mut bytes = Vec::with_capacity(alloc, HEADER_LEN + ENTRY_LEN * entries.len())?;
-    bytes.extend_from_slice(&[byte_of(command), VERSION, 0, 0])?;
+    let mut bytes = encode_header(alloc, command, entries.len())?;
     for entry in entries {
-        bytes.extend_from_slice(&bytes_of(*entry))?;
+        encode_entry(&mut bytes, *entry)?;
     }
     Ok(bytes)
+}
+
+/// The bytes of a datagram without entries, in a vector with room for `count` of them.
+///
+/// # Errors
+/// Only out of memory.
+pub fn encode_header(alloc: Global, command: Command, count: usize) -> Result<Vec<u8>, AllocError>
+    requires { count ≤ MAX_ENTRIES }
+    ensures { IfOk result (λ bytes. Spells command [] bytes.items) }
+{
+    let mut bytes = Vec::with_capacity(alloc, HEADER_LEN + ENTRY_LEN * count)?;
+    bytes.extend_from_slice(&[byte_of(command), VERSION, 0, 0])?;
+    Ok(bytes)
+}
+
+/// Appends an entry to the bytes of a datagram.
+///
+/// # Errors
+/// Only out of memory. The bytes are then unchanged.
+pub fn encode_entry(bytes: &mut Vec<u8>, entry: Rte) -> Result<(), AllocError>
+    ensures fits { Fits entry }
+    ensures ok { OnOk result (bytes.new.items ≡ bytes.old.items ++ entry_bytes entry) }
+    ensures err { OnErr result (bytes.new.items ≡ bytes.old.items) }
+{
+    bytes.extend_from_slice(&bytes_of(entry))
 }
 
 fn byte_of(command: Command) -> u8

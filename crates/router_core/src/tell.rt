@@ -2,7 +2,7 @@
 //! sections 2.5 and 2.6).
 
 ghost use Rattle.std.specs.Prelude.{◌≡◌, ◌≤◌, ◌+◌, ◌*◌, [], ◌∷◌, true, length, map, IsOk, IfOk, OnOk};
-ghost use Rattle.router_core.specs.Common.{most_entries, map_entries, AddsSpelled, AreSpelled, responses_at, selected, told_entry, told_message, update_messages, settled_table, told_route, Group};
+ghost use Rattle.router_core.specs.Common.{Response, Spells, most_entries, map_entries, AddsSpelled, AreSpelled, responses_at, selected, told_entry, told_message, update_messages, settled_table, told_route, Group};
 ghost use Rattle.std.specs.FinMap as map_of;
 
 use crate::answer::{Destination, Outgoing};
@@ -10,7 +10,7 @@ use crate::config::RouterConfig;
 use crate::listed::Listed;
 use crate::listing::told_run;
 use prefix6::Prefix;
-use ripng_wire::{Command, Rte, encode, entries_for_mtu};
+use ripng_wire::{Command, Rte, encode_entry, encode_header, entries_for_mtu};
 use route_table::{INFINITY, Moment, Origin, Route, RouteStore};
 use std::alloc::{AllocError, Global};
 
@@ -92,6 +92,25 @@ pub fn told_on(
         .collect(alloc)
 }
 
+/// The bytes of the Response that advertises these routes on an interface.
+///
+/// # Errors
+/// Only out of memory.
+fn told_response(
+    alloc: Global,
+    iface: usize,
+    piece: &[(Prefix, Route)],
+) -> Result<Vec<u8>, AllocError>
+    requires few { length piece.now ≤ most_entries }
+    ensures { IfOk result (λ bytes. Spells Response (map (told_entry iface) piece.now) bytes.items) }
+{
+    let mut bytes = encode_header(alloc, Command::Response, piece.len())?;
+    for &(prefix, route) in piece {
+        encode_entry(&mut bytes, told_entry(iface, prefix, route))?;
+    }
+    Ok(bytes)
+}
+
 /// Adds the Response that advertises these routes on an interface, to the group.
 fn push_piece(
     alloc: Global,
@@ -103,8 +122,7 @@ fn push_piece(
     ensures spelled { OnOk result (AddsSpelled (told_message iface piece.now ∷ []) sends.old.items sends.new.items) }
     ensures one { OnOk result (length sends.new.items ≡ length sends.old.items + 1) }
 {
-    let entries = told_on(alloc, iface, piece)?;
-    let bytes = Listed::from_vec(encode(alloc, Command::Response, &entries)?);
+    let bytes = Listed::from_vec(told_response(alloc, iface, piece)?);
     let to = Destination::Group;
     sends.push(Outgoing { iface, to, bytes })?;
     Ok(())
