@@ -17,10 +17,14 @@ use ripngd_control::{Clients, ListenFault, Monitor};
 use ripngd_engine::Engine;
 use ripngd_udp::{Udp, Uptime};
 use router_core::RouterConfig;
+use std::alloc::Global;
 use std::fs::File;
 use std::io::Write;
 use std::net::Net;
 use std::rt::{Clock, Files};
+
+/// The C library keeps up to twice so many bytes that are given back, for the next update.
+const KEPT: usize = 4 << 20;
 
 /// What a router needs of the system: memory, files, standard output, the clock and sockets.
 pub trait System: AllocGlobal + Files<File = File> + Print + Clock + Net {}
@@ -34,6 +38,13 @@ struct Ready<'r, R: Clock> {
     link: Udp<'r, R>,
     rng: Pcg32,
     log: RunLog<'r, R>,
+}
+
+/// Lets the C library keep the memory of an update for the next one. Where more than 128 KiB are free at the end of the heap, glibc gives
+/// them back to the system, and takes them anew page by page; that bound rises to twice the size of a large piece that is given back
+/// (mallopt(3)). This one is never written to, so it takes no memory.
+fn keep_memory(alloc: Global) {
+    let _ = Vec::<u8>::with_capacity(alloc, KEPT);
 }
 
 /// Runs the router of a configuration until it has made its turns, its seconds have passed, or a client stops it. Then it writes the
@@ -117,6 +128,7 @@ fn run_configured<'a, R: System, O: Write, E: Write>(
     ensures ran { OnOk result (ShowsRun order.entry config.router config.rng history.new (O.contents out.old) (O.contents out.new)) }
     ensures failed { IfErr result (MayFail (Ask.Run order.entry)) }
 {
+    keep_memory(rt.alloc());
     let log = RunLog::open(rt, order)?;
     let _ = write_echoes(&config, err);
     let peers = config.peers;
