@@ -178,6 +178,7 @@ impl<R: Clock> Udp<'_, R> {
         let end = self.since.saturating_add(self.pause);
         let mut now = self.clock.now().ms();
         self.was_called = false;
+        // Within the same millisecond only the queues are searched. They are empty where the last call gave no datagram.
         if now == self.since
             && !self.was_silent
             && let Some(received) = self.take_next(buffer)
