@@ -33,6 +33,14 @@ pub mod Cutting
 pub mod Stretches
 pub mod ByMinutes
 pub mod Timely
+pub mod AnyStep
+pub mod AnyTold
+pub mod InForce
+pub mod OwnTags
+pub mod Leading
+pub mod Births
+pub mod Ages
+pub mod Sliding
 pub mod Rounds
 pub mod Tells
 pub mod Changing
@@ -42,3 +50,6 @@ pub mod Together
 pub mod Adding
 pub mod Handing
 pub mod Latest
+pub mod EachPlace
+pub mod TwoRouters
+mod RecentExample

@@ -18,12 +18,14 @@ use Rattle.ripng_phases.specs.Phases.{IsOrdinary}
 
 -- its table stays, while its time may go on
 pub record Waits (e : Event) (router : ℕ) (s t : State) : Type 0 where
+  pub config : t.config ≡ s.config
   pub table : t.table ≡ s.table
   pub last : (t.last ≡ s.last) ⊎ ((router_of e ≡ router) × (t.last ≡ max s.last (moment_of e)))
 
 -- its routes age, and may lose their marks
 pub record Ages (e : Event) (router : ℕ) (s t : State) : Type 0 where
   pub here : router_of e ≡ router
+  pub config : t.config ≡ s.config
   pub last : t.last ≡ max s.last (moment_of e)
   pub row : (p : Prefix6) → (map_of.get t.table p ≡ option_and_then (aged t.last) (map_of.get s.table p))
       ⊎ (map_of.get t.table p ≡ option_and_then without_mark (option_and_then (aged t.last) (map_of.get s.table p)))
@@ -48,7 +50,7 @@ IsStep net w e answer router s t = Waits e router s t ⊎ (Ages e router s t ⊎
 abbrev pub CameFrom : Network → World → Event → Answer → ℕ → State → Type 0
 CameFrom net w e answer router t = (s : State) × (slice_get w.states router ≡ Some s) × IsStep net w e answer router s t
 
-ages : (e : Event) (router : ℕ) (s : State) (n word : ℕ) (b c : Bool) → router_of e ≡ router → n ≡ max s.last (moment_of e)
+pub ages : (e : Event) (router : ℕ) (s : State) (n word : ℕ) (b c : Bool) → router_of e ≡ router → n ≡ max s.last (moment_of e)
     → Ages e router s (cond b (record s { table = unmarked (aged_table n s.table); last = n; regular = n + 15_000 + word % 30_001 })
     (cond c (record s { table = unmarked (aged_table n s.table); last = n; hold = n + 1_000 + word % 4_001 }) (record s { table = aged_table n s.table; last = n })))
 ages e router s n word b c here last = by b c
@@ -61,9 +63,9 @@ ages e router s n word b c here last = by b c
 
     by : (b c : Bool) → Ages e router s (cond b (record s { table = unmarked (aged_table n s.table); last = n; regular = n + 15_000 + word % 30_001 })
         (cond c (record s { table = unmarked (aged_table n s.table); last = n; hold = n + 1_000 + word % 4_001 }) (record s { table = aged_table n s.table; last = n })))
-    by true c = record { here = here; last = last; row = λ p. inr (unmarked_at p) }
-    by false true = record { here = here; last = last; row = λ p. inr (unmarked_at p) }
-    by false false = record { here = here; last = last; row = λ p. inl (aged_at p) }
+    by true c = record { here = here; config = refl; last = last; row = λ p. inr (unmarked_at p) }
+    by false true = record { here = here; config = refl; last = last; row = λ p. inr (unmarked_at p) }
+    by false false = record { here = here; config = refl; last = last; row = λ p. inl (aged_at p) }
 
 -- when one router moves, the others wait
 moved : (net : Network) (w w' : World) (e : Event) (mover : ℕ) (what : Happening) (answer : Answer) (m : RouterMoves w mover what answer w') → IsStep net w e answer mover m.old m.new
@@ -71,7 +73,7 @@ moved : (net : Network) (w w' : World) (e : Event) (mover : ℕ) (what : Happeni
 moved net w w' e mover what answer m step router t is =
     elim (state_before w.states mover m.new router t (ap (λ (xs : List State). slice_get xs router) (sym m.states) ∙ is)) [
       | inl same ↦ subst (λ r. CameFrom net w e answer r t) same.0 (subst (λ x. CameFrom net w e answer mover x) same.1 (m.old, m.old_is, step))
-      | inr there ↦ (t, there, inl (record { table = refl; last = inl refl }))
+      | inr there ↦ (t, there, inl (record { config = refl; table = refl; last = inl refl }))
     ]
 
 pub step_of : (net : Network) (w w' : World) (e : Event) (answer : Answer) → IsOrdinary e → Happens net w e answer w' → (router : ℕ) (t : State) → slice_get w'.states router ≡ Some t
@@ -89,8 +91,8 @@ step_of net w w' (Deliver datagram to iface now) answer plain d =
         (Replies d.moves.old (max d.moves.old.last now) (arrival_of net d.sent iface now) answer d.moves.new))
         (λ why. Refuses d.moves.old (max d.moves.old.last now) why answer d.moves.new)
         → IsStep net w (Deliver datagram to iface now) answer to d.moves.old d.moves.new
-    by (Some why) b f r refuses = inl (record { table = ap (λ (s : State). s.table) refuses.state; last = inr (refl, ap (λ (s : State). s.last) refuses.state) })
-    by None false f r replies = inl (record { table = ap (λ (s : State). s.table) replies.state; last = inr (refl, ap (λ (s : State). s.last) replies.state) })
+    by (Some why) b f r refuses = inl (record { config = ap (λ (s : State). s.config) refuses.state; table = ap (λ (s : State). s.table) refuses.state; last = inr (refl, ap (λ (s : State). s.last) refuses.state) })
+    by None false f r replies = inl (record { config = ap (λ (s : State). s.config) replies.state; table = ap (λ (s : State). s.table) replies.state; last = inr (refl, ap (λ (s : State). s.last) replies.state) })
     by None true f r hears =
         inr (inr (record { datagram = datagram; iface = iface; now = now; event = refl; sent = d.sent; sent_is = d.sent_is; linked = d.linked; clean = f; response = r; hears = hears }))
 step_of net w w' (Stranger to x) answer plain i =
@@ -103,8 +105,8 @@ step_of net w w' (Stranger to x) answer plain i =
         → MatchOption o (MatchBool b (Hears i.moves.old (max i.moves.old.last x.now) x answer i.moves.new) (Replies i.moves.old (max i.moves.old.last x.now) x answer i.moves.new))
         (λ why. Refuses i.moves.old (max i.moves.old.last x.now) why answer i.moves.new)
         → IsStep net w (Stranger to x) answer to i.moves.old i.moves.new
-    by (Some why) b f refuses = inl (record { table = ap (λ (s : State). s.table) refuses.state; last = inr (refl, ap (λ (s : State). s.last) refuses.state) })
-    by None false f replies = inl (record { table = ap (λ (s : State). s.table) replies.state; last = inr (refl, ap (λ (s : State). s.last) replies.state) })
+    by (Some why) b f refuses = inl (record { config = ap (λ (s : State). s.config) refuses.state; table = ap (λ (s : State). s.table) refuses.state; last = inr (refl, ap (λ (s : State). s.last) refuses.state) })
+    by None false f replies = inl (record { config = ap (λ (s : State). s.config) replies.state; table = ap (λ (s : State). s.table) replies.state; last = inr (refl, ap (λ (s : State). s.last) replies.state) })
     by None true f hears = absurd (clash f)
 step_of net w w' (Restart to now) answer plain m = λ router t is. absurd plain
 step_of net w w' (Shutdown to now) answer plain m = λ router t is. absurd plain

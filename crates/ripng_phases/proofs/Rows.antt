@@ -24,6 +24,7 @@ use Rattle.ripng_world.proofs.Members.{At}
 -- the same route but for its mark
 pub record IsSame (q r : RouteValue) : Type 0 where
   pub metric : r.metric ≡ q.metric
+  pub tag : r.tag ≡ q.tag
   pub origin : r.origin ≡ q.origin
   pub clock : r.clock ≡ q.clock
 
@@ -33,6 +34,7 @@ pub record IsTaken (g : Gateway) (entries : List Rte) (p : Prefix6) (r : RouteVa
   pub stands : At entries entry
   pub names : prefix_named entry ≡ p
   pub metric : r.metric ≡ min (entry.metric + g.cost) infinity
+  pub tag : r.tag ≡ entry.tag
   pub next_hop : ℕ
   pub origin : r.origin ≡ Learned g.iface g.from next_hop
   pub until_is : until ≡ g.moment + timeout
@@ -70,10 +72,10 @@ abbrev pub IsLiveFrom : Option RouteValue → Gateway → List Rte → Prefix6 �
 IsLiveFrom before g entries p after =
     (r : RouteValue) (until : ℕ) → after ≡ Some r → r.clock ≡ Live until → (before ≡ Some r) ⊎ IsTaken g entries p r until
 
-module _ (before : Option RouteValue) (g : Gateway) (entries : List Rte) (p : Prefix6) (e : Rte) (stands : At entries e) (names : prefix_named e ≡ p) (o : Offer) (o_is : o.metric ≡ e.metric) where
+module _ (before : Option RouteValue) (g : Gateway) (entries : List Rte) (p : Prefix6) (e : Rte) (stands : At entries e) (names : prefix_named e ≡ p) (o : Offer) (o_is : o.metric ≡ e.metric) (o_tag : o.tag ≡ e.tag) where
   taken_live : (changed : Bool) → IsLiveFrom before g entries p (Some (record (taken g o) { changed = changed }))
   taken_live changed r until is clock = inr (subst (λ (x : RouteValue). IsTaken g entries p x until) same
-      (record { entry = e; stands = stands; names = names; metric = ap (λ m. min (m + g.cost) infinity) o_is; next_hop = o.next_hop; origin = refl; until_is = until_of until (ap (λ (x : RouteValue). x.clock) same ∙ clock) }))
+      (record { entry = e; stands = stands; names = names; metric = ap (λ m. min (m + g.cost) infinity) o_is; tag = o_tag; next_hop = o.next_hop; origin = refl; until_is = until_of until (ap (λ (x : RouteValue). x.clock) same ∙ clock) }))
     where
       same : record (taken g o) { changed = changed } ≡ r
       same = Some-same (record (taken g o) { changed = changed }) r is
@@ -114,7 +116,7 @@ module _ (before : Option RouteValue) (g : Gateway) (entries : List Rte) (p : Pr
 pub heard_live : (h : Hearing) (after : Table) (p : Prefix6) → Heard h after → IsLiveFrom (map_of.get h.before p) h.gateway h.entries p (map_of.get after p)
 heard_live h after p heard =
     heard_keeps (IsLiveFrom (map_of.get h.before p) h.gateway h.entries p) h after p
-    (λ e stands names place b k. offer_live (map_of.get h.before p) h.gateway h.entries p e stands names (offer_at h.config h.gateway.from h.entries place e) refl b k)
+    (λ e stands names place b k. offer_live (map_of.get h.before p) h.gateway h.entries p e stands names (offer_at h.config h.gateway.from h.entries place e) refl refl b k)
     heard (λ r until is clock. inl is)
 
 -- ---- a route that lasts
@@ -234,7 +236,7 @@ aged_live n (Some q) r until is clock = by_clock q.clock refl is
             let same = Some-same q r f in (
               q,
               refl,
-              record { metric = ap (λ (x : RouteValue). x.metric) (sym same); origin = ap (λ (x : RouteValue). x.origin) (sym same); clock = ap (λ (x : RouteValue). x.clock) (sym same) },
+              record { metric = ap (λ (x : RouteValue). x.metric) (sym same); tag = ap (λ (x : RouteValue). x.tag) (sym same); origin = ap (λ (x : RouteValue). x.origin) (sym same); clock = ap (λ (x : RouteValue). x.clock) (sym same) },
               subst (λ v. n < v) (same_until until (sym e ∙ ap (λ (x : RouteValue). x.clock) same ∙ clock)) (ahead u n t),
             )
 
@@ -250,6 +252,7 @@ unmarked_live n b r until is clock = by (option_and_then (aged n) b) refl is
           a.1,
           record {
             metric = ap (λ (y : RouteValue). y.metric) (sym same) ∙ a.2.metric;
+            tag = ap (λ (y : RouteValue). y.tag) (sym same) ∙ a.2.tag;
             origin = ap (λ (y : RouteValue). y.origin) (sym same) ∙ a.2.origin;
             clock = ap (λ (y : RouteValue). y.clock) (sym same) ∙ a.2.clock;
           },

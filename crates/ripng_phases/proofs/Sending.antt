@@ -33,7 +33,7 @@ IsToldTruly w d = (s : State) × (slice_get w.states d.router ≡ Some s) × IsT
 abbrev pub TellsTruly : World → World → Type 0
 TellsTruly w w' = (new : List Sent) × (w'.sent ≡ w.sent ++ new) × AllByRecursion (IsToldTruly w') new
 
-abbrev AreTrue : Table → List Outgoing → Type 0
+abbrev pub AreTrue : Table → List Outgoing → Type 0
 AreTrue table sends = AllByRecursion (λ o. IsTrueDatagram table o.iface o.bytes) sends
 
 mover_tells : (w w' : World) (mover : ℕ) (what : Happening) (answer : Answer) (m : RouterMoves w mover what answer w') → AreTrue m.new.table answer.sends → TellsTruly w w'
@@ -46,7 +46,7 @@ mover_tells w w' mover what answer m all = (
 )
 
 -- a tick, with marks or without
-ticked_true : (old : State) (n word : ℕ) (sends : List Outgoing) → AreTrue (aged_table n old.table) sends → (b c : Bool)
+pub ticked_true : (old : State) (n word : ℕ) (sends : List Outgoing) → AreTrue (aged_table n old.table) sends → (b c : Bool)
     → let new = cond b (record old { table = unmarked (aged_table n old.table); last = n; regular = n + 15_000 + word % 30_001 })
     (cond c (record old { table = unmarked (aged_table n old.table); last = n; hold = n + 1_000 + word % 4_001 }) (record old { table = aged_table n old.table; last = n })) in
     AreTrue new.table sends
@@ -55,7 +55,7 @@ ticked_true old n word sends all false true = each_weaker (λ o. IsTrueDatagram 
 ticked_true old n word sends all false false = all
 
 -- an arrival
-arrived_true : (old new : State) (x : Received) (answer : Answer) → IsClean old.table → (o : Option Fault) (b : Bool)
+pub arrived_true : (old new : State) (x : Received) (answer : Answer) → IsClean old.table → (o : Option Fault) (b : Bool)
     → MatchOption o (MatchBool b (Hears old (max old.last x.now) x answer new) (Replies old (max old.last x.now) x answer new)) (λ why. Refuses old (max old.last x.now) why answer new)
     → AreTrue new.table answer.sends
 arrived_true old new x answer clean (Some why) b refuses = subst (AreTrue new.table) (sym (ap (λ (a : Answer). a.sends) refuses.answer_is)) tt

@@ -22,7 +22,7 @@ IsLiveAfter net w e answer router s t p r until =
 pub live_after : (net : Network) (w : World) (e : Event) (answer : Answer) (router : ℕ) (s t : State) → IsStep net w e answer router s t → (p : Prefix6) (r : RouteValue) (until : ℕ)
     → map_of.get t.table p ≡ Some r → r.clock ≡ Live until → IsLiveAfter net w e answer router s t p r until
 live_after net w e answer router s t (inl waits) p r until is clock =
-    inl (r, ap (λ x. map_of.get x p) (sym waits.table) ∙ is, record { metric = refl; origin = refl; clock = refl })
+    inl (r, ap (λ x. map_of.get x p) (sym waits.table) ∙ is, record { metric = refl; tag = refl; origin = refl; clock = refl })
 live_after net w e answer router s t (inr (inl ages)) p r until is clock =
     elim (ages.row p) [
       | inl row ↦ let a = aged_live t.last (map_of.get s.table p) r until (sym row ∙ is) clock in inl (a.0, a.1, a.2)
@@ -31,7 +31,7 @@ live_after net w e answer router s t (inr (inl ages)) p r until is clock =
 live_after net w e answer router s t (inr (inr here)) p r until is clock =
     let held : map_of.get here.hears.table p ≡ Some r = ap (λ (x : State). map_of.get x.table p) (sym here.hears.state) ∙ is in
     elim (heard_live _ here.hears.table p here.hears.heard r until held clock) [
-      | inl was ↦ inl (r, was, record { metric = refl; origin = refl; clock = refl })
+      | inl was ↦ inl (r, was, record { metric = refl; tag = refl; origin = refl; clock = refl })
       | inr taken ↦ inr (here, taken)
     ]
 

@@ -30,7 +30,7 @@ IsClean table = (p : Prefix6) (r : RouteValue) → map_of.get table p ≡ Some r
 
 -- the entry, sent on the interface, tells what the table holds, if it is below 16; and what the table holds is told, or was learned there
 pub record IsTrueOf (table : Table) (iface : ℕ) (e : Rte) : Type 0 where
-  pub low : e.metric < infinity → (r : RouteValue) × (map_of.get table (prefix_named e) ≡ Some r) × (r.metric ≡ e.metric)
+  pub low : e.metric < infinity → (r : RouteValue) × (map_of.get table (prefix_named e) ≡ Some r) × (r.metric ≡ e.metric) × (r.tag ≡ e.tag)
   pub full : (r : RouteValue) → map_of.get table (prefix_named e) ≡ Some r → (e.metric ≡ r.metric) ⊎ (is_learned_on iface r.origin ≡ true)
 
 -- so do all entries of a Response
@@ -41,7 +41,7 @@ not_low : (m : ℕ) → m ≡ 16 → m < 16 → ⊥
 not_low m a b = omega arith
 
 module _ (table : Table) (clean : IsClean table) where
-  abbrev AllTrue : ℕ → List Rte → Type 0
+  abbrev pub AllTrue : ℕ → List Rte → Type 0
   AllTrue iface entries = AllByRecursion (IsTrueOf table iface) entries
 
   told_true : (iface : ℕ) (p : Prefix6) (r : RouteValue) → map_of.get table p ≡ Some r → IsTrueOf table iface (told_entry iface (p, r))
@@ -56,7 +56,7 @@ module _ (table : Table) (clean : IsClean table) where
             low = λ low. absurd (not_low infinity refl low);
             full = λ q here. inr (subst (λ (x : RouteValue). is_learned_on iface x.origin ≡ true) (Some-same r q (sym named ∙ here)) learned);
           }
-      by false learned = record { low = λ low. (r, named, refl); full = λ q here. inl (ap (λ (x : RouteValue). x.metric) (Some-same r q (sym named ∙ here))) }
+      by false learned = record { low = λ low. (r, named, refl, refl); full = λ q here. inl (ap (λ (x : RouteValue). x.metric) (Some-same r q (sym named ∙ here))) }
 
   all_told : (iface : ℕ) (which : RouteValue → Bool) → AllTrue iface (told iface which table)
   all_told iface which =
@@ -69,7 +69,7 @@ module _ (table : Table) (clean : IsClean table) where
     where
       by_value : (o : Option RouteValue) → map_of.get table (cleared e.addr e.len) ≡ o → IsTrueOf table iface (filled e o)
       by_value None is = record { low = λ low. absurd (not_low infinity refl low); full = λ q here. absurd (None-Some q (sym is ∙ here)) }
-      by_value (Some r) is = record { low = λ low. (r, is, refl); full = λ q here. inl (ap (λ (x : RouteValue). x.metric) (Some-same r q (sym is ∙ here))) }
+      by_value (Some r) is = record { low = λ low. (r, is, refl, refl); full = λ q here. inl (ap (λ (x : RouteValue). x.metric) (Some-same r q (sym is ∙ here))) }
 
       too_long : (n : ℕ) → nat_le n 128 ≡ false → n ≤ 128 → ⊥
       too_long n a b = grind (arith, nat_tests, a, b)
@@ -85,10 +85,10 @@ module _ (table : Table) (clean : IsClean table) where
         | false ↦ each_image (IsTrueOf table iface) (reply_entry table) (reply_true iface) asked
       ]
 
-  abbrev IsTrueMessage : Message → Type 0
+  abbrev pub IsTrueMessage : Message → Type 0
   IsTrueMessage m = m.command ≡ Response → AllTrue m.iface m.entries
 
-  abbrev AllTrueMessages : List Message → Type 0
+  abbrev pub AllTrueMessages : List Message → Type 0
   AllTrueMessages ms = AllByRecursion IsTrueMessage ms
 
   pieces_true : (iface n : ℕ) (entries : List Rte) → AllTrue iface entries → AllByRecursion (AllTrue iface) (pieces n entries)
@@ -102,7 +102,7 @@ module _ (table : Table) (clean : IsClean table) where
       each_mapped IsTrueMessage (λ piece. record { iface = iface; to = to; command = Response; entries = piece }) (pieces (entries_for_mtu (mtu_at config iface)) entries)
       (each_weaker (λ piece. Response ≡ Response → AllTrue iface piece) (AllTrue iface) (λ piece t _. t) _ (pieces_true iface (entries_for_mtu (mtu_at config iface)) entries all))
 
-  updates_true : (config : Config) (which : RouteValue → Bool) → AllTrueMessages (update_messages config which table)
+  pub updates_true : (config : Config) (which : RouteValue → Bool) → AllTrueMessages (update_messages config which table)
   updates_true config which =
       elim config.quiet as (λ b. AllTrueMessages (cond b [] (flat_map (λ t. responses config t.0 Group (told t.0 which table)) (enumerate_from 0 config.interfaces)))) [
         | true ↦ tt
@@ -117,10 +117,10 @@ module _ (table : Table) (clean : IsClean table) where
         | false ↦ responses_true config x.iface (Peer x.source x.source_port) (reply x.iface table asked) (all_replied x.iface asked)
       ]
 
-  abbrev AllSound : List Outgoing → Type 0
+  abbrev pub AllSound : List Outgoing → Type 0
   AllSound sends = AllByRecursion (λ o. IsTrueDatagram table o.iface o.bytes) sends
 
-  spelled_true : (ms : List Message) (sends : List Outgoing) → AllTrueMessages ms → AreSpelled ms sends → AllSound sends
+  pub spelled_true : (ms : List Message) (sends : List Outgoing) → AllTrueMessages ms → AreSpelled ms sends → AllSound sends
   spelled_true [] [] all spelled = tt
   spelled_true [] (o ∷ os) all spelled = absurd spelled
   spelled_true (m ∷ ms) [] all spelled = absurd spelled
@@ -160,7 +160,7 @@ pub unmarked_true : (table : Table) (iface : ℕ) (bytes : List ℕ) → IsTrueD
 unmarked_true table iface bytes all entries spelled =
     each_weaker (IsTrueOf (unmarked table) iface) (IsTrueOf table iface)
     (λ e true_of. record {
-      low = λ low. let r = true_of.low low in (record r.0 { changed = false }, get-map_values without_mark table (prefix_named e) ∙ ap (option_and_then without_mark) r.1, r.2);
+      low = λ low. let r = true_of.low low in (record r.0 { changed = false }, get-map_values without_mark table (prefix_named e) ∙ ap (option_and_then without_mark) r.1, r.2, r.3);
       full = λ q here. by_value e true_of q (map_of.get table (prefix_named e)) refl (sym (get-map_values without_mark table (prefix_named e)) ∙ here);
     })
     entries (all entries spelled)

@@ -1,7 +1,8 @@
 //! Laws of phases. Each is the contract of an empty function: it follows from the definitions alone.
 
-ghost use Rattle.std.specs.Prelude.{◌≡◌, ℕ, ◌+◌, ◌*◌, ◌<◌, ◌≤◌, List, ◌++◌, length, All, Some, slice_get};
-ghost use Rattle.ripng_phases.specs.Common.{AllByRecursion, State, IsNeverQuiet, network_now, FitsTablesSince, AreHealed, Network, IsNetwork, OwnsPrefixes, PacketsArrive, IsTableBackedSince, Round, SynchronousRounds, IsSoundDatagramSince, World, Event, IsCold, WorldRun, past_of, Timed, AreFrom, IsTimely, untimed, Step, Begun, Phases, AreClose, ArePhases, steps_of, events_of, reached};
+ghost use Rattle.std.specs.Prelude.{◌≡◌, ℕ, ◌+◌, ◌-◌, ◌*◌, ◌<◌, ◌≤◌, List, ◌++◌, length, All, Some, slice_get};
+ghost use Rattle.ripng_phases.specs.Common.{AllByRecursion, Prefix6, RouteValue, infinity, State, IsNeverQuiet, network_now, FitsTablesSince, AreHealed, Network, IsNetwork, OwnsPrefixes, PacketsArrive, IsBackedSince, IsTableBackedSince, IsLeastSince, OwnsSince, Round, SynchronousRounds, IsSoundDatagramSince, World, Event, IsCold, WorldRun, past_of, Timed, AreFrom, IsTimely, untimed, IsAwake, IsRecent, past_from, Step, Begun, Phases, AreClose, ArePhases, steps_of, events_of, reached};
+ghost use Rattle.std.specs.FinMap as map_of;
 
 /// Phases are a run of exactly their events.
 pub fn phases_are_run()
@@ -93,4 +94,37 @@ pub fn packets_arrive_in_minutes()
 pub fn rounds_are_phases()
     ensures { (net : Network) (rounds : List Round) (w end : World) → SynchronousRounds net w rounds end → AreClose rounds
         → ArePhases net w rounds end }
+{}
+
+/// News does not outlive 46 minutes, whatever is lost, repeated or overtaken, and whichever routers start anew, shut down or are
+/// reconfigured. Datagrams come in less than 15 seconds or never, a router that does anything ticks each second, and its clock
+/// loses at most a second. Then each route rests on costs and owners in force at some moment of the last 46 minutes, and a route of a
+/// lower metric on younger ones: 197 seconds for each metric above 1. A prefix that nobody has owned for so long is nowhere reachable.
+/// This holds at every moment (`always`): of each route, since so long before.
+pub fn forgets_old_news()
+    ensures by_metric { (net : Network) (moments : List ℕ) (events : List Event) (history : List Timed) (start stop : ℕ) (cold w end : World)
+        → IsNetwork net → IsCold net moments cold → WorldRun net cold events w → IsRecent net w history start end
+        → (router : ℕ) (state : State) (p : Prefix6) (r : RouteValue) → slice_get end.states router ≡ Some state → IsAwake history router stop
+        → map_of.get state.table p ≡ Some r → r.metric < infinity → start + (r.metric - 1) * 197_000 ≤ stop
+        → IsBackedSince (past_from net w history) router p r }
+    ensures backed { (net : Network) (moments : List ℕ) (events : List Event) (history : List Timed) (start stop : ℕ) (cold w end : World)
+        → IsNetwork net → IsCold net moments cold → WorldRun net cold events w → IsRecent net w history start end → start + 46 * 60_000 ≤ stop
+        → (router : ℕ) (state : State) → slice_get end.states router ≡ Some state → IsAwake history router stop
+        → IsTableBackedSince (past_from net w history) router state.table }
+    ensures least { (net : Network) (moments : List ℕ) (events : List Event) (history : List Timed) (start stop : ℕ) (cold w end : World)
+        → IsNetwork net → IsCold net moments cold → WorldRun net cold events w → IsRecent net w history start end → start + 46 * 60_000 ≤ stop
+        → (router : ℕ) (state : State) (p : Prefix6) (r : RouteValue) (metric : ℕ) → slice_get end.states router ≡ Some state → IsAwake history router stop
+        → map_of.get state.table p ≡ Some r → r.metric < infinity → IsLeastSince (past_from net w history) router p metric → metric ≤ r.metric }
+    ensures gone { (net : Network) (moments : List ℕ) (events : List Event) (history : List Timed) (start stop : ℕ) (cold w end : World)
+        → IsNetwork net → IsCold net moments cold → WorldRun net cold events w → IsRecent net w history start end → start + 46 * 60_000 ≤ stop
+        → (router : ℕ) (state : State) (p : Prefix6) (r : RouteValue) → slice_get end.states router ≡ Some state → IsAwake history router stop
+        → ((owner tag : ℕ) → OwnsSince (past_from net w history) owner p tag → ⊥)
+        → map_of.get state.table p ≡ Some r → infinity ≤ r.metric }
+    ensures always { (net : Network) (moments : List ℕ) (events : List Event) (early between late : List Timed) (start from until : ℕ) (cold w end : World)
+        → IsNetwork net → IsCold net moments cold → WorldRun net cold events w → IsRecent net w (early ++ (between ++ late)) start end
+        → start ≤ from → All (λ t. t.at < from) early → AreFrom from (between ++ late)
+        → let then = reached w (untimed early) in let now = reached then (untimed between) in
+        (router : ℕ) (state : State) (p : Prefix6) (r : RouteValue) → slice_get now.states router ≡ Some state → IsAwake (early ++ between) router until
+        → map_of.get state.table p ≡ Some r → r.metric < infinity → from + (r.metric - 1) * 197_000 ≤ until
+        → IsBackedSince (past_from net then between) router p r }
 {}

@@ -16,8 +16,11 @@
 //! [`run_phases`] makes phases in a [`ripng_world::Lab`]. A lab, a number of phases and random numbers go in. The lab as it is
 //! then comes out, and the last phase in which a table changed. The theorems over all histories stand in `laws.rt`.
 //!
-//! Read the definitions in `specs/` in this order: Phases (the four rules of a phase), Minutes (histories by a true clock), Making
-//! and Changing (what `run_phases` promises). Begin in the code with `making.rt`: a phase is made of the actions in `acting.rt`.
+//! Whatever is lost, no news outlives 46 minutes: `forgets_old_news`.
+//!
+//! Read the definitions in `specs/` in this order: Phases (the four rules of a phase), Minutes (histories by a true clock), Ages (how
+//! old news may be), Making and Changing (what `run_phases` promises). Begin in the code with `making.rt`: a phase is made of the
+//! actions in `acting.rt`.
 #![tactic(auto)]
 
 mod acting;
@@ -27,8 +30,9 @@ mod refused;
 mod shown;
 
 pub use laws::{
-    heals_in_minutes, heals_in_phases, packets_arrive_in_minutes, packets_arrive_in_phases,
-    phases_are_run, phases_go_on, phases_keep_routes_backed, phases_take_time, rounds_are_phases,
+    forgets_old_news, heals_in_minutes, heals_in_phases, packets_arrive_in_minutes,
+    packets_arrive_in_phases, phases_are_run, phases_go_on, phases_keep_routes_backed,
+    phases_take_time, rounds_are_phases,
 };
 pub use making::run_phases;
 pub use refused::PhaseRefused;

@@ -27,10 +27,10 @@ pub use Rattle.ripngd_control.specs.declared.command.Command.{Command}
 pub use Rattle.ripngd_control.specs.declared.command.Command.TheVariants.{Stop, StopNow}
 pub use Rattle.ripngd_control.specs.declared.control_socket.ListenFault.{ListenFault}
 pub use Rattle.ripngd_control.specs.declared.counts.Losses.{Losses}
-pub use Rattle.ripngd_engine.specs.Link.{Call}
+pub use Rattle.ripngd_engine.specs.Link.{Call, RecvFailed}
 pub use Rattle.ripngd_engine.specs.Log.{HasNoLineFeed, change_text, log_of, entry_lines, hop_text, route_text}
 pub use Rattle.ripngd_engine.specs.Run.{counted}
-pub use Rattle.ripngd_engine.specs.Seen.{Ran, Seen, Started, untouched, seen}
+pub use Rattle.ripngd_engine.specs.Seen.{Outside, Ran, RanUntilDeaf, Seen, Started, TurnsAnswer, untouched, seen}
 pub use Rattle.ripngd_engine.specs.declared.peer.Peer.{Peer}
 pub use Rattle.ripngd_engine.specs.declared.peer.Place.{Place}
 pub use Rattle.ripngd_engine.specs.declared.report.EngineFault.{EngineFault}

@@ -1,8 +1,9 @@
 -- What a run has done.
 use Rattle.std.specs.Prelude.{◌≡◌, ◌≢◌, ◌≤◌, ◌+◌, ◌*◌, ◌⊎◌, ℕ, Bool, true, false, List, [], ◌∷◌, ◌++◌, Option, None, Some, map}
-use Rattle.ripngd_daemon.specs.Below.{Appends, steps_u32, stream_of, Stream, Lcg, pcg32, Forwarding, Order, IsConfigured, RefusesConfig, Config, ConfigFault, ClientsState, Heeds, ObeysLine, control_text, Stop, StopNow, Call, Ran, Seen, Started, untouched, OnLink, links_at, History}
+use Rattle.ripngd_daemon.specs.Below.{Appends, steps_u32, stream_of, Stream, Lcg, pcg32, Forwarding, Order, IsConfigured, RefusesConfig, Config, ConfigFault, ClientsState, Heeds, ObeysLine, control_text, Stop, StopNow, Call, RecvFailed, Outside, Ran, RanUntilDeaf, Seen, Started, untouched, OnLink, links_at, Failure, History}
 use Rattle.router_core.specs.Config.{Config as RouterValue}
 use Rattle.ripngd_config.specs.declared.fault.ConfigFault.TheVariants as config_faults
+use Rattle.ripngd_daemon.specs.declared.failure.Failure.TheVariants as failures
 use Rattle.ripngd_daemon.specs.Losses.{AreLossesOf, has_failed}
 use Rattle.ripngd_daemon.specs.Tabled.{table_text}
 use Rattle.ripngd_daemon.specs.Written.{begins_with}
@@ -30,9 +31,9 @@ IsOver (Some seconds) moment = seconds * 1000 ≤ moment
 abbrev pub RanInTime : Option ℕ → Seen → Seen → Type 0
 RanInTime seconds a b = (¬ (IsOver seconds a.machine.router.last)) × Ran 1 a b
 
--- a router made a turn, and then obeyed the line of a client, or none
+-- a router made a turn, which did not end it, and then obeyed the line of a client, or none
 abbrev pub TurnsAndHeeds : List (List ℕ) → Seen → List (List ℕ) → Seen → Type 0
-TurnsAndHeeds before a after b = (m : Seen) × Ran 1 a m × Heeds before m after b
+TurnsAndHeeds before a after b = (m : Seen) × Ran 1 a m × (m.machine.ended ≡ false) × Heeds before m after b
 
 -- the steps of a router, the last one last: it made a turn, or obeyed the line of a client
 pub data Steps : Type 0 where
@@ -52,11 +53,11 @@ lines_in Begun = []
 lines_in (Turned before) = lines_in before
 lines_in (Told before line) = lines_in before ++ line ∷ []
 
--- they were done: each turn in time, each line obeyed
+-- they were done: each turn in time, each line obeyed by a router that had not ended
 abbrev pub AreDone : Option ℕ → Steps → Seen → Seen → Type 0
 AreDone seconds Begun a b = b ≡ a
 AreDone seconds (Turned before) a b = (m : Seen) × AreDone seconds before a m × RanInTime seconds m b
-AreDone seconds (Told before line) a b = (m : Seen) × AreDone seconds before a m × ObeysLine line m b
+AreDone seconds (Told before line) a b = (m : Seen) × AreDone seconds before a m × (m.machine.ended ≡ false) × ObeysLine line m b
 
 -- `count` turns were made, and just these lines of clients obeyed between them
 pub record HasDone (seconds : Option ℕ) (count : ℕ) (lines : List (List ℕ)) (a b : Seen) : Type 0 where
@@ -70,24 +71,46 @@ abbrev pub IsToldToStop : List (List ℕ) → Type 0
 IsToldToStop lines =
     (before : List (List ℕ)) × ((lines ≡ before ++ control_text Stop ∷ []) ⊎ (lines ≡ before ++ control_text StopNow ∷ []))
 
--- a router has made all its turns, or fewer, and then its seconds had passed, or a client had stopped it
+-- a router has made all its turns, or fewer, and then its seconds had passed, or a client had stopped it. It has not run out of
+-- memory for its forwarding table
 pub record Lasts (most : ℕ) (seconds : Option ℕ) (lines : List (List ℕ)) (a b : Seen) : Type 0 where
   pub count : ℕ
   pub within : count ≤ most
   pub has_done : HasDone seconds count lines a b
   pub ends : (count ≡ most) ⊎ (IsOver seconds b.machine.router.last ⊎ IsToldToStop lines)
+  pub goes_on : b.machine.ended ≡ false
+
+-- ---- a run
+
+-- the outside of a run before it starts: a link that was never called, a clock that was never read, and a log that begins as ordered
+abbrev pub outside_before : Order → Outside
+outside_before order = untouched (Some []) (Some []) (Some (begins_with order.log order.append))
+
+-- a run is under way, or has ended: a router of this configuration started with these random words, made turns in time, and obeyed
+-- just these lines of clients between them. These are the calls of its link so far, and it has the moments that its clock gave
+pub record IsUnderWay (order : Order) (router : RouterValue) (rng : Lcg) (calls : List Call) (lines : List (List ℕ)) (now : Seen) : Type 0 where
+  pub begun : Seen
+  pub count : ℕ
+  pub started : Started router (words_of rng) (outside_before order) begun
+  pub has_done : HasDone order.seconds count lines begun now
+  pub calls_are : now.outside.calls ≡ Some calls
+  pub moments : List ℕ
+  pub moments_are : now.outside.moments ≡ Some moments
 
 -- ---- a whole run
--- a router of this configuration started with these random words, over a link that was never called, a clock that tells nothing
+-- a router of this configuration started with these random words, over a link that was never called, a clock that was never read
 -- and a log that begins as ordered, and has done as ordered what its clients' lines say. What is known of it are just the calls
--- of its link, just the bytes of its log, and what it and its link have lost; this is its forwarding table then
+-- of its link, just the moments that its clock gave, just the bytes of its log, and what it and its link have lost; this is its
+-- forwarding table then
 pub record HasRun (order : Order) (router : RouterValue) (rng : Lcg) (history : History) (table : Forwarding) : Type 0 where
   pub calls : List Call
   pub begun : Seen
   pub done : Seen
-  pub started : Started router (words_of rng) (untouched (Some []) None (Some (begins_with order.log order.append))) begun
+  pub started : Started router (words_of rng) (outside_before order) begun
   pub lasts : Lasts order.turns order.seconds (lines_of history.clients) begun done
   pub calls_are : (done.outside.calls ≡ Some calls) × (history.ports.calls ≡ Some calls)
+  pub moments : List ℕ
+  pub moments_are : done.outside.moments ≡ Some moments
   pub log_is : done.outside.text ≡ Some history.log.past.bytes
   pub lost : AreLossesOf done.outside.lost_sends done.machine.lost_memory (has_failed order.log done.outside.log_failed) history.lost
   pub table_is : table ≡ done.machine.fib
@@ -105,3 +128,47 @@ IsRan order text history true old new =
     × (order.control ≡ None → lines_of history.clients ≡ []) × ShowsRun order config.router config.rng history old new
 IsRan order text history false old new =
     (fault : ConfigFault) × (fault ≢ config_faults.OutOfMemory) × RefusesConfig text order.tag order.quiet fault
+
+-- ---- a run that failed
+-- how a failure ends a router that has made so many turns: its link could not be read, after just these turns, and nothing else was
+-- done; or its table was not written, or memory ran out, in what it did last
+abbrev pub Stops : Failure → ℕ → Seen → Seen → Type 0
+Stops (failures.Link done) count now end = (count ≡ done) × (end.machine.ended ≡ false) × RanUntilDeaf 0 now end
+Stops failures.Output count now end = end ≡ now
+Stops failures.OutOfMemory count now end = end ≡ now
+Stops failure count now end = ⊥
+
+-- turns were made, and just these lines of clients obeyed between them, until a failure
+pub record FailsIn (seconds : Option ℕ) (lines : List (List ℕ)) (failure : Failure) (a b : Seen) : Type 0 where
+  pub count : ℕ
+  pub now : Seen
+  pub has_done : HasDone seconds count lines a now
+  pub stops : Stops failure count now b
+
+-- the calls of a link at which a run fails: one `recv`, if it is the link that failed
+abbrev pub calls_at : Failure → List Call
+calls_at (failures.Link done) = RecvFailed ∷ []
+calls_at failure = []
+
+-- a run of this configuration failed after its router had started. Until then it was under way. What is known of it are just the calls
+-- of its link, the failed `recv` included, just the bytes of its log, and what it and its link have lost
+pub record HasFailed (order : Order) (router : RouterValue) (rng : Lcg) (failure : Failure) (history : History) : Type 0 where
+  pub calls : List Call
+  pub now : Seen
+  pub end : Seen
+  pub under_way : IsUnderWay order router rng calls (lines_of history.clients) now
+  pub stops : Stops failure under_way.count now end
+  pub calls_are : (end.outside.calls ≡ Some (calls ++ calls_at failure)) × (history.ports.calls ≡ Some (calls ++ calls_at failure))
+  pub log_is : end.outside.text ≡ Some history.log.past.bytes
+  pub lost : AreLossesOf end.outside.lost_sends end.machine.lost_memory (has_failed order.log end.outside.log_failed) history.lost
+
+-- a run failed whose ports were bound: its router did not start, and no calls are told; or after that
+abbrev pub FailsBound : Order → RouterValue → Lcg → Failure → History → Type 0
+FailsBound order router rng failure history =
+    (history.ports.calls ≡ None) ⊎ HasFailed order router rng failure history
+
+-- a run of a configuration's text, as it is ordered, failed: nothing was bound, and its history is as it was; or its ports were bound
+abbrev pub IsCutOff : Order → List ℕ → Failure → History → Type 0
+IsCutOff order text failure history =
+    (config : Config) × IsConfigured text order.tag order.quiet config × (history.ports.on_links ≡ Some (links_of config))
+    × FailsBound order config.router config.rng failure history

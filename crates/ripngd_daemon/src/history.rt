@@ -1,6 +1,6 @@
 //! The past of a run, and what it has lost.
 
-ghost use Rattle.std.specs.Prelude.{◌≡◌, ◌≢◌, [], List, None, OnOk, Some};
+ghost use Rattle.std.specs.Prelude.{◌≡◌, ◌≢◌, ℕ, [], List, None, OnOk, Some};
 ghost use Rattle.ripngd_daemon.specs.Common.{Appends, Call, counted, AreLossesOf, has_failed, losses_line, no_losses, nothing_lost, lines_of};
 
 use crate::run_log::RunLog;
@@ -52,12 +52,15 @@ impl History {
         log: RunLog<'_, R>,
     )
         ensures calls { (calls : List Call) × (engine.entry.calls ≡ Some calls) × (self.new.ports.calls ≡ Some calls) }
+        ensures moments { (moments : List ℕ) × (engine.entry.moments ≡ Some moments) }
         ensures log { self.new.log ≡ log.entry.written }
         ensures lost { AreLossesOf engine.entry.lost_sends engine.entry.lost_memory (has_failed ordered.entry engine.entry.log_failed) self.new.lost }
         ensures links { self.new.ports.on_links ≡ self.old.ports.on_links }
         ensures clients { self.new.clients ≡ self.old.clients }
     {
         let report = engine.report();
+        // For contracts: it has told each moment that it gave.
+        let _clock = engine.clock();
         let mut link = engine.into_link();
         link.finish();
         self.lost = losses_of(ordered, report, &link);

@@ -2,7 +2,7 @@
 //! and sockets.
 //!
 //! `specs/Run` says what a run has done, `specs/Failing` which failures each subcommand may have, and `specs/Reading` which changes a
-//! log has, and which texts are none.
+//! log has, and which texts are no log.
 #![tactic(auto)]
 
 mod check_command;

@@ -1,7 +1,7 @@
 //! `run`: one router over UDP sockets of loopback. All options take the same path.
 
-ghost use Rattle.std.specs.Prelude.{◌≡◌, ◌≢◌, [], IfErr, IfOk, List, None, OnOk, Some, length, option_map, ℕ};
-ghost use Rattle.ripngd_daemon.specs.Common.{HasOneEach, MayFail, IsRan, ShowsRun, links_of, lines_of};
+ghost use Rattle.std.specs.Prelude.{◌≡◌, ◌≢◌, ◌⊎◌, [], IfErr, IfOk, List, None, OnOk, Some, false, length, option_map, ℕ};
+ghost use Rattle.ripngd_daemon.specs.Common.{HasOneEach, MayFail, FailsBound, IsCutOff, IsRan, ShowsRun, links_of, lines_of};
 
 use crate::check_command::write_refusal;
 use crate::failure::Failure;
@@ -23,7 +23,8 @@ use std::io::Write;
 use std::net::Net;
 use std::rt::{Clock, Files};
 
-/// The C library keeps up to twice so many bytes that are given back, for the next update.
+/// The size of a large piece of memory that is given back at the start, in bytes: glibc then keeps up to twice as many freed bytes for
+/// the next update.
 const KEPT: usize = 4 << 20;
 
 /// What a router needs of the system: memory, files, standard output, the clock and sockets.
@@ -58,7 +59,8 @@ fn keep_memory(alloc: Global) {
 /// - `err` gets a line for each interface that is its own peer, `ripngd: running, N interfaces` once the log is begun, and a line when
 ///   the log fails. With `-d` it also gets a line for each datagram and entry that is refused, and the counts at the end. A failure of
 ///   `err` changes nothing else.
-/// - `history` has the past of the run, also if it ended early.
+/// - `history` has the past of the run, also if it failed. Where nothing was bound it is as before; where the router did not start, it has
+///   no calls.
 ///
 /// # Errors
 /// The first failure of these: the log is the configuration; reading the configuration; opening or locking the log; binding a port;
@@ -74,6 +76,9 @@ pub fn run<'a, R: System, F: FileSource, O: Write, E: Write>(
     ensures ran { IfOk result (λ accepted. (config : List ℕ) × F.holds files.now order.entry.config.now config
         × IsRan order.entry config history.new accepted (O.contents out.old) (O.contents out.new)) }
     ensures own_config { IfOk result (λ _. option_map (λ s. s.now) order.entry.log ≢ Some order.entry.config.now) }
+    ensures refused { IfOk result (λ accepted. accepted ≡ false → history.new ≡ history.old) }
+    ensures cut_off { IfErr result (λ failure. (history.new ≡ history.old) ⊎ ((config : List ℕ) × F.holds files.now order.entry.config.now config
+        × IsCutOff order.entry config failure history.new)) }
     ensures failed { IfErr result (MayFail (Ask.Run order.entry)) }
 {
     refuse_own_config(rt, order)?;
@@ -126,6 +131,8 @@ fn run_configured<'a, R: System, O: Write, E: Write>(
     ensures bound { OnOk result (history.new.ports.on_links ≡ Some (links_of config)) }
     ensures alone { OnOk result (order.entry.control ≡ None → lines_of history.new.clients ≡ []) }
     ensures ran { OnOk result (ShowsRun order.entry config.router config.rng history.new (O.contents out.old) (O.contents out.new)) }
+    ensures cut_off { IfErr result (λ failure. (history.new ≡ history.old) ⊎ ((history.new.ports.on_links ≡ Some (links_of config))
+        × FailsBound order.entry config.router config.rng failure history.new)) }
     ensures failed { IfErr result (MayFail (Ask.Run order.entry)) }
 {
     keep_memory(rt.alloc());
@@ -160,9 +167,11 @@ fn run_ready<'r, 'a, R: System, O: Write, E: Write>(
     requires uncalled { ready.link.calls ≡ [] }
     requires untold { lines_of history.old.clients ≡ [] }
     requires unwritten { ready.log.written.past.bytes ≡ [] }
+    requires unclosed { history.old.ports.calls ≡ None }
     ensures bound { history.new.ports.on_links ≡ history.old.ports.on_links }
     ensures alone { history.old.clients ≡ None → history.new.clients ≡ None }
     ensures ran { OnOk result (ShowsRun order.entry ready.entry.router ready.entry.rng history.new (O.contents out.old) (O.contents out.new)) }
+    ensures cut_off { IfErr result (λ failure. FailsBound order.entry ready.entry.router ready.entry.rng failure history.new) }
     ensures failed { IfErr result (MayFail (Ask.Run order.entry)) }
 {
     let mut log = ready.log;

@@ -15,7 +15,7 @@ use std::rt::Files;
 /// Where the log goes.
 #[derive(Drop)]
 enum Target<'r, R> {
-    /// No log is ordered: it refuses its first line, so that none is made after it.
+    /// No log is ordered: the first write fails, so the engine formats no more lines.
     Nowhere,
     /// Standard output, without a buffer.
     Output(&'r R),
@@ -53,7 +53,8 @@ pub(crate) fn refuse_own_config<'a, R: Files>(rt: &R, order: Order<'a>) -> Resul
     }
 }
 
-/// Whether another program holds the lock of a file. Only regular files are locked, and only where the system has locks.
+/// Locks a file, and returns whether another program holds its lock. Only regular files are locked, and only where the system has
+/// locks.
 fn is_held(lines: &File) -> bool {
     let is_file = matches!(lines.metadata(), Ok(about) if about.is_file());
     is_file && matches!(lines.try_lock(), Err(TryLockError::WouldBlock))

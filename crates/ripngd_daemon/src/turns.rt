@@ -1,7 +1,7 @@
 //! The turns of a running router, with the commands of its clients between them.
 
-ghost use Rattle.std.specs.Prelude.{◌≡◌, ◌≢◌, ◌≤◌, ◌*◌, ◌↔◌, [], IfErr, IfOk, IsTrue, OnOk, None, false, true};
-ghost use Rattle.ripngd_daemon.specs.Common.{Appends, Heeds, Ran, seen, MayFail, IsOver, IsToldToStop, Lasts, TurnsAndHeeds, lines_of, words_of, table_text};
+ghost use Rattle.std.specs.Prelude.{◌≡◌, ◌≢◌, ◌≤◌, ◌*◌, ◌↔◌, [], Err, IfErr, IfOk, IsTrue, OnOk, None, false, true};
+ghost use Rattle.ripngd_daemon.specs.Common.{Appends, Heeds, Ran, TurnsAnswer, seen, FailsIn, MayFail, IsOver, IsToldToStop, Lasts, TurnsAndHeeds, lines_of, words_of, table_text};
 
 use crate::failure::Failure;
 use crate::history::losses_of;
@@ -24,7 +24,7 @@ const SECOND: u64 = 1_000;
 /// How many milliseconds a short turn lasts.
 const SHORT_MS: u64 = 50;
 
-/// In how many turns it is looked for clients after one was there: others may have connected meanwhile, or one could not be let in.
+/// For how many more turns the listening socket is polled after a client was there: another may have connected meanwhile, or failed to.
 const LOOKS: u32 = 64;
 
 /// Whether the seconds, if a number was ordered, had passed at the last step of a router.
@@ -49,7 +49,7 @@ impl<'r, R: Clock> LinkChange<Udp<'r, R>> for Pause {
 }
 
 /// How long the next turn may last: until the router has something to do, or its seconds have passed. It is short where turns are
-/// counted, where it is looked for clients, where the last one had a datagram, and where something is due already.
+/// counted, while the listening socket is polled for clients, after a turn with a datagram, and where something is due already.
 fn pause_before<R: Clock>(order: Order<'_>, engine: &UdpEngine<'_, R>, looks: u32) -> Pause {
     if order.turns < u32::MAX || looks > 0 || !engine.link().was_silent() {
         return Pause(SHORT_MS);
@@ -65,7 +65,7 @@ fn pause_before<R: Clock>(order: Order<'_>, engine: &UdpEngine<'_, R>, looks: u3
     }
 }
 
-/// Serves the clients, if the router listens and may have some: one has connected or is served, or it is still looked for one.
+/// Serves the clients, if the router listens and may have some: one has connected or is served, or the socket is still polled.
 fn serve_clients<R: Clock + AllocGlobal, W: Write, E: Write>(
     rt: &R,
     order: Order<'_>,
@@ -110,6 +110,9 @@ pub(crate) fn tell_of_log<R: Clock, E: Write>(
 }
 
 /// Makes a turn, and serves the clients.
+///
+/// # Errors
+/// Those of the turn. No client was served then.
 fn turn<R: Clock + AllocGlobal, W: Write, E: Write>(
     rt: &R,
     order: Order<'_>,
@@ -122,6 +125,8 @@ fn turn<R: Clock + AllocGlobal, W: Write, E: Write>(
     requires { engine.old.ended ≡ false }
     ensures does { OnOk result (TurnsAndHeeds (lines_of clients.old) (seen words_of W.contents engine.old log.old)
         (lines_of clients.new) (seen words_of W.contents engine.new log.new)) }
+    ensures fails { IfErr result (λ fault. (lines_of clients.new ≡ lines_of clients.old)
+        × TurnsAnswer 1 (seen words_of W.contents engine.old log.old) (Err fault) (seen words_of W.contents engine.new log.new)) }
     ensures goes_on { IfOk result (λ state. state ≢ RunState.Ended → engine.new.ended ≡ false) }
     ensures stops { IfOk result (λ state. state ≡ RunState.Stopped → IsToldToStop (lines_of clients.new)) }
     ensures alone { clients.old ≡ None → clients.new ≡ None }
@@ -152,6 +157,8 @@ fn make_turns<'a, R: Clock + AllocGlobal, W: Write, E: Write>(
     requires untold { lines_of clients.old ≡ [] }
     ensures lasts { OnOk result (Lasts order.entry.turns order.entry.seconds (lines_of clients.new)
         (seen words_of W.contents engine.old log.old) (seen words_of W.contents engine.new log.new)) }
+    ensures fails { IfErr result (λ failure. FailsIn order.entry.seconds (lines_of clients.new) failure
+        (seen words_of W.contents engine.old log.old) (seen words_of W.contents engine.new log.new)) }
     ensures alone { clients.old ≡ None → clients.new ≡ None }
     ensures failed { IfErr result (MayFail (Ask.Run order.entry)) }
 {
@@ -163,7 +170,8 @@ fn make_turns<'a, R: Clock + AllocGlobal, W: Write, E: Write>(
         match turn(rt, order, engine, clients, &mut looks, log, monitor) {
             Ok(RunState::Running) => {}
             Ok(RunState::Stopped) => return Ok(()),
-            Ok(RunState::Ended) | Err(EngineFault::OutOfMemory) => return Err(Failure::OutOfMemory),
+            Ok(RunState::Ended) => return Err(Failure::OutOfMemory),
+            Err(EngineFault::OutOfMemory) => return Err(Failure::OutOfMemory),
             Err(EngineFault::LinkFault { .. }) => return Err(Failure::Link(done)),
         }
     }
@@ -171,6 +179,7 @@ fn make_turns<'a, R: Clock + AllocGlobal, W: Write, E: Write>(
 }
 
 /// Makes the turns, and then writes the forwarding table.
+#[tactic(auto, using(crate::proofs::Runs::unwritten))]
 pub(crate) fn show_turns<'a, R: Clock + AllocGlobal, W: Write, E: Write, O: Write>(
     rt: &R,
     order: Order<'a>,
@@ -185,9 +194,14 @@ pub(crate) fn show_turns<'a, R: Clock + AllocGlobal, W: Write, E: Write, O: Writ
     ensures lasts { OnOk result (Lasts order.entry.turns order.entry.seconds (lines_of clients.new)
         (seen words_of W.contents engine.old log.old) (seen words_of W.contents engine.new log.new)) }
     ensures shown { OnOk result (Appends (O.contents out.old) (O.contents out.new) (table_text engine.new.fib)) }
+    ensures fails { IfErr result (λ failure. FailsIn order.entry.seconds (lines_of clients.new) failure
+        (seen words_of W.contents engine.old log.old) (seen words_of W.contents engine.new log.new)) }
     ensures alone { clients.old ≡ None → clients.new ≡ None }
     ensures failed { IfErr result (MayFail (Ask.Run order.entry)) }
 {
     make_turns(rt, order, engine, clients, log, monitor)?;
-    write_entries(engine.fib().entries(), out).map_err(|_| Failure::Output)
+    match write_entries(engine.fib().entries(), out) {
+        Ok(()) => Ok(()),
+        Err(_) => Err(Failure::Output),
+    }
 }

@@ -237,6 +237,13 @@ impl<S: RouteStore, L: Link, C: TimeSource, R: Rng + Drop> Engine<S, L, C, R> {
         &self.runner.outlet.link
     }
 
+    /// The clock.
+    pub fn clock(&self) -> &C
+        ensures { C.moments result.now ≡ self.now.moments }
+    {
+        &self.runner.clock
+    }
+
     /// Changes the link between two turns. Router, forwarding table, clock, random source, counts and the calls of the link stay.
     pub fn change_link<T: LinkChange<L>>(&mut self, change: &mut T)
         ensures { self.new ≡ self.old }

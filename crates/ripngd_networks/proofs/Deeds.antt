@@ -13,7 +13,7 @@ use Rattle.route_table.proofs.TableLaws.{Some-same}
 use Rattle.ripng_world.specs.declared.event.Sent.{Sent}
 use Rattle.ripng_world.specs.Network.{Network, Node, config_of}
 use Rattle.ripng_world.specs.World as world
-use Rattle.ripng_world.specs.World.{World, Event, RouterMoves, Happens, arrival_of, sent_by}
+use Rattle.ripng_world.specs.World.{World, Event, RouterMoves, Happens, arrival_of, is_to_group, sent_by}
 use Rattle.ripng_phases.specs.Phases as phases
 use Rattle.ripngd_engine.specs.Link.{Call, Datagram, Gave, Silent, RecvFailed, Handed}
 use Rattle.ripngd_engine.specs.Run as engine
@@ -24,6 +24,7 @@ use Rattle.ripngd_networks.specs.Daemons.{Act, Start, Listen, Tick, Reconfigure,
 use Rattle.ripngd_networks.specs.Links.{handed_in, handed_by, IsCopyOf, IsOfAStranger}
 use Rattle.ripngd_networks.specs.OnTime.{IsNumbered}
 use Rattle.ripngd_networks.proofs.Addresses.{addresses_of, fault_same, moves_addresses}
+use Rattle.ripngd_networks.proofs.ToWhom.{to_whom}
 use Rattle.ripngd_networks.proofs.Sends.{get_behind, handed_back, set_elsewhere, set_here}
 
 -- ---- a world that is as the daemons are
@@ -73,14 +74,14 @@ pub record IsTicked (trace : Trace) (now : ℕ) (answer : Answer) : Type 0 where
 
 -- the event of a deed, where so many datagrams were sent before the first was handed over
 abbrev pub IsEventOf : ℕ → ℕ → Act → Option ℕ → Trace → Event → Answer → Type 0
-IsEventOf count router Start number trace e answer = (now : ℕ) × (e ≡ world.Restart router now)
+IsEventOf count router Start number trace e answer = (now : ℕ) × (e ≡ world.Restart router now) × (trace.moments ≡ now ∷ [])
 IsEventOf count router (Listen (Gave d)) (Some number) trace e answer = (now : ℕ) × (e ≡ world.Deliver (count + number) router d.iface now) × IsHeard trace now answer
 IsEventOf count router (Listen (Gave d)) None trace e answer = (now : ℕ) × (e ≡ world.Stranger router (arrival now d)) × IsHeard trace now answer
 IsEventOf count router Tick number trace e answer = (now : ℕ) × (word : ℕ) × (e ≡ world.Tick router now word) × IsTicked trace now answer
-IsEventOf count router (Reconfigure c) number trace e answer = (now : ℕ) × (e ≡ world.Reconfigure router now c)
-IsEventOf count router Shutdown number trace e answer = (now : ℕ) × (e ≡ world.Shutdown router now)
-IsEventOf count router (LinkDown on) number trace e answer = (now : ℕ) × (e ≡ world.LinkDown router now on)
-IsEventOf count router (LinkUp on) number trace e answer = (now : ℕ) × (e ≡ world.LinkUp router now on)
+IsEventOf count router (Reconfigure c) number trace e answer = (now : ℕ) × (e ≡ world.Reconfigure router now c) × (trace.moments ≡ now ∷ [])
+IsEventOf count router Shutdown number trace e answer = (now : ℕ) × (e ≡ world.Shutdown router now) × (trace.moments ≡ now ∷ [])
+IsEventOf count router (LinkDown on) number trace e answer = (now : ℕ) × (e ≡ world.LinkDown router now on) × (trace.moments ≡ now ∷ [])
+IsEventOf count router (LinkUp on) number trace e answer = (now : ℕ) × (e ≡ world.LinkUp router now on) × (trace.moments ≡ now ∷ [])
 IsEventOf count router act number trace e answer = ⊥
 
 -- a daemon lost a step for memory
@@ -241,7 +242,7 @@ module _ (net : Network) (first : List Sent) (daemons : ℕ → Option Machine) 
       moved_on (Restarts up.now) up.answer n starts (record { act = Start; trace = t }) number (world.Restart router up.now) refl
       (router_moves (Restarts up.now) up.answer n starts)
       (handed_of (record { act = Start; trace = t }) up.carries.sends up.answer up.carries.all_sends (ap handed_in_trace up.carries.trace))
-      (up.now, refl)
+      (up.now, refl, ap (λ (x : Trace). x.moments) up.carries.trace)
 
   -- a daemon that was up
   module _ (m : Machine) (up : daemons router ≡ Some m) where
@@ -275,18 +276,18 @@ module _ (net : Network) (first : List Sent) (daemons : ℕ → Option Machine) 
 
     reconfigured_on : (c : Change) (number : Option ℕ) (t : Trace) (n : Machine) → Goes (Reconfigure c) m t n → Onward n (record { act = Reconfigure c; trace = t }) number
     reconfigured_on c number t n did =
-        once_on (Reconfigure c) (Reconfigures did.1.0 c) (world.Reconfigure router did.1.0 c) did.1.0 number t n m was did.1.1 refl (λ w' r. r) (did.1.0, refl)
+        once_on (Reconfigure c) (Reconfigures did.1.0 c) (world.Reconfigure router did.1.0 c) did.1.0 number t n m was did.1.1 refl (λ w' r. r) (did.1.0, refl, ap (λ (x : Trace). x.moments) did.1.1.carries.trace)
 
     shut_down_on : (number : Option ℕ) (t : Trace) (n : Machine) → Goes Shutdown m t n → Onward n (record { act = Shutdown; trace = t }) number
-    shut_down_on number t n did = once_on Shutdown (ShutsDown did.1.0) (world.Shutdown router did.1.0) did.1.0 number t n m was did.1.1 refl (λ w' r. r) (did.1.0, refl)
+    shut_down_on number t n did = once_on Shutdown (ShutsDown did.1.0) (world.Shutdown router did.1.0) did.1.0 number t n m was did.1.1 refl (λ w' r. r) (did.1.0, refl, ap (λ (x : Trace). x.moments) did.1.1.carries.trace)
 
     link_down_on : (on : ℕ) (number : Option ℕ) (t : Trace) (n : Machine) → Goes (LinkDown on) m t n → Onward n (record { act = LinkDown on; trace = t }) number
     link_down_on on number t n did =
-        once_on (LinkDown on) (LinkGoesDown did.1.0 on) (world.LinkDown router did.1.0 on) did.1.0 number t n m was did.1.1 refl (λ w' r. r) (did.1.0, refl)
+        once_on (LinkDown on) (LinkGoesDown did.1.0 on) (world.LinkDown router did.1.0 on) did.1.0 number t n m was did.1.1 refl (λ w' r. r) (did.1.0, refl, ap (λ (x : Trace). x.moments) did.1.1.carries.trace)
 
     link_up_on : (on : ℕ) (number : Option ℕ) (t : Trace) (n : Machine) → Goes (LinkUp on) m t n → Onward n (record { act = LinkUp on; trace = t }) number
     link_up_on on number t n did =
-        once_on (LinkUp on) (LinkComesUp did.1.0 on) (world.LinkUp router did.1.0 on) did.1.0 number t n m was did.1.1 refl (λ w' r. r) (did.1.0, refl)
+        once_on (LinkUp on) (LinkComesUp did.1.0 on) (world.LinkUp router did.1.0 on) did.1.0 number t n m was did.1.1 refl (λ w' r. r) (did.1.0, refl, ap (λ (x : Trace). x.moments) did.1.1.carries.trace)
 
     refused_on : (number : Option ℕ) (t : Trace) (n : Machine) → Goes Refuse m t n → Onward n (record { act = Refuse; trace = t }) number
     refused_on number t n did =
@@ -314,11 +315,12 @@ module _ (net : Network) (first : List Sent) (daemons : ℕ → Option Machine) 
             sent = s;
             sent_is = ap (λ ds. slice_get ds (length first + number)) agrees.sent ∙ get_behind first handed_over number ∙ is;
             linked = copy.linked;
-            moves = subst (λ x. RouterMoves w router (Arrives x) answer (moved_world (Arrives (arrival now d)) answer n moves)) (arrives s copy) (router_moves (Arrives (arrival now d)) answer n moves);
+            moves = subst (λ x. RouterMoves w router (Arrives x) answer (moved_world (Arrives (arrival now d)) answer n moves)) (arrives s copy)
+                (to_whom w (moved_world (Arrives (arrival now d)) answer n moves) router answer (arrival now d) (is_to_group s.to) copy.hops (router_moves (Arrives (arrival now d)) answer n moves));
           }
         where
-          arrives : (s : Sent) (c : IsCopyOf net s router d) → arrival now d ≡ arrival_of net s d.iface now
-          arrives s c = simp (c.source, c.port, c.hops, c.to, c.bytes)
+          arrives : (s : Sent) (c : IsCopyOf net s router d) → record (arrival now d) { to_group = is_to_group s.to } ≡ arrival_of net s d.iface now
+          arrives s c = simp (c.source, c.port, c.hops, c.bytes)
 
       -- and a stranger's is one
       intruded : IsOfAStranger (config_of node) d → Happens net w (world.Stranger router (arrival now d)) answer (moved_world (Arrives (arrival now d)) answer n moves)

@@ -254,7 +254,7 @@ module _ (net : Network) (before : List Happened) (daemons : ℕ → Option Mach
             let h = k.p.dated.happened in
             let g = gift_of (length first) h.router h.deed.act k.p.dated.number h.deed.trace t.step.event t.step.answer datagram router iface now k.event event in
             let split = dated_split net before daemons history start end daemons' go first done w agrees k.xs k.p k.ys k.parts in
-            let o = old_deeds t.at start k.xs old new k.before_is (happen_first start (dated_of k.xs) (k.p.dated ∷ dated_of k.ys) (subst (HappenFrom start) split go.in_time)) long_ago in
+            let o = old_deeds 13_000 t.at start k.xs old new k.before_is (happen_first start (dated_of k.xs) (k.p.dated ∷ dated_of k.ys) (subst (HappenFrom start) split go.in_time)) long_ago in
             let le = on_time.recent (dated_of o.before) (dated_of o.after) k.p.dated (dated_of k.ys)
             (split ∙ ap (λ ts. ts ++ k.p.dated ∷ dated_of k.ys) (ap dated_of o.parts ∙ dated_on o.before o.after))
             (subst (λ n. start + 13_000 ≤ n) (sym k.at_is) far)

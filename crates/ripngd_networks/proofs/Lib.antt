@@ -3,6 +3,7 @@ mod Lives
 mod Following
 mod ColdWorlds
 mod Sends
+mod ToWhom
 mod Deeds
 mod Running
 mod Truth
@@ -18,6 +19,9 @@ mod InOrder
 mod Starting
 mod Healing
 mod Staying
+mod Simulating
+mod Forgetting
+mod Anyhow
 pub mod Delivering
 mod OneRoute
 mod LastUpdateTold
@@ -28,3 +32,5 @@ mod LastUpdateSeen
 mod LastUpdateDelivered
 mod LinkDown
 mod PacketExamples
+pub mod TwoDaemons
+mod AnyhowExample

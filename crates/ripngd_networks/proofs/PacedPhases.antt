@@ -7,7 +7,6 @@ use Rattle.ripng_world.specs.Network.{Network, IsNetwork}
 use Rattle.ripng_world.specs.Rounds.{router_of, moment_of}
 use Rattle.ripng_world.specs.World.{World, Event, IsCold, WorldRun, past_of}
 use Rattle.ripng_phases.specs.Minutes.{Timed}
-use Rattle.ripng_phases.specs.Phases.{Before}
 use Rattle.ripng_phases.proofs.Healing.{heals_in_phases}
 use Rattle.ripng_phases.proofs.Stretches.{IsInPhases, IsRegular, spans, stretched}
 use Rattle.ripngd_networks.proofs.Paced.{IsPaced, punctual}

@@ -275,28 +275,28 @@ all_timed P (p ∷ ps) all = by p.step (all_timed P ps all.1)
     by (Some s) rest = (all.0, rest)
 
 -- the deeds up to steps that happened by a moment
-pub record IsOld (by : ℕ) (ps : List Paired) (old new : List Timed) : Type 0 where
+pub record IsOld (delay by : ℕ) (ps : List Paired) (old new : List Timed) : Type 0 where
   pub before : List Paired
   pub after : List Paired
   pub parts : ps ≡ before ++ after
   pub before_is : history_of before ≡ old
-  pub old_are : AllByRecursion (λ t. t.at + 13_000 ≤ by) (dated_of before)
+  pub old_are : AllByRecursion (λ t. t.at + delay ≤ by) (dated_of before)
 
-pub old_deeds : (by start : ℕ) (ps : List Paired) (old new : List Timed) → history_of ps ≡ old ++ new → HappenFrom start (dated_of ps) → AllByRecursion (λ t. t.at + 13_000 ≤ by) old
-    → IsOld by ps old new
-old_deeds by start ps [] new e from all = record { before = []; after = ps; parts = refl; before_is = refl; old_are = tt }
-old_deeds by start [] (o ∷ old) new e from all = absurd (cc)
-old_deeds by start (p ∷ ps) (o ∷ old) new e from all =
-    of_step p.step refl e (happen_on ps p.dated.at p.dated.at (same p.dated.at) from.1) (λ xs g a. old_deeds by p.dated.at ps xs new g from.1 a)
+pub old_deeds : (delay by start : ℕ) (ps : List Paired) (old new : List Timed) → history_of ps ≡ old ++ new → HappenFrom start (dated_of ps) → AllByRecursion (λ t. t.at + delay ≤ by) old
+    → IsOld delay by ps old new
+old_deeds delay by start ps [] new e from all = record { before = []; after = ps; parts = refl; before_is = refl; old_are = tt }
+old_deeds delay by start [] (o ∷ old) new e from all = absurd (cc)
+old_deeds delay by start (p ∷ ps) (o ∷ old) new e from all =
+    of_step p.step refl e (happen_on ps p.dated.at p.dated.at (same p.dated.at) from.1) (λ xs g a. old_deeds delay by p.dated.at ps xs new g from.1 a)
   where
     same : (n : ℕ) → n ≤ n
     same n = omega arith
 
-    down : (a b : ℕ) → a ≤ b → b + 13_000 ≤ by → a + 13_000 ≤ by
+    down : (a b : ℕ) → a ≤ b → b + delay ≤ by → a + delay ≤ by
     down a b f g = omega arith
 
     of_step : (s : Option Step) → p.step ≡ s → cons_option (option_map (timed_when p.dated.at) s) (history_of ps) ≡ o ∷ old ++ new → AreFrom p.dated.at (history_of ps)
-        → ((xs : List Timed) → history_of ps ≡ xs ++ new → AllByRecursion (λ t. t.at + 13_000 ≤ by) xs → IsOld by ps xs new) → IsOld by (p ∷ ps) (o ∷ old) new
+        → ((xs : List Timed) → history_of ps ≡ xs ++ new → AllByRecursion (λ t. t.at + delay ≤ by) xs → IsOld delay by ps xs new) → IsOld delay by (p ∷ ps) (o ∷ old) new
     of_step None none g far later =
         let r = later (o ∷ old) g all in
         let first : AreFrom p.dated.at (o ∷ old ++ new) = subst (AreFrom p.dated.at) g far in
@@ -314,7 +314,7 @@ old_deeds by start (p ∷ ps) (o ∷ old) new e from all =
           after = r.after;
           parts = ap (λ l. p ∷ l) r.parts;
           before_is = ap (λ s. cons_option (option_map (timed_when p.dated.at) s) (history_of r.before)) some ∙ ap (λ l. timed_when p.dated.at s ∷ l) r.before_is ∙ ap (λ x. x ∷ old) (head g);
-          old_are = (subst (λ (x : Timed). x.at + 13_000 ≤ by) (sym (head g)) all.0, r.old_are);
+          old_are = (subst (λ (x : Timed). x.at + delay ≤ by) (sym (head g)) all.0, r.old_are);
         }
       where
         head : timed_when p.dated.at s ∷ history_of ps ≡ o ∷ (old ++ new) → timed_when p.dated.at s ≡ o

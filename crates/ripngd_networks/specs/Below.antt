@@ -9,7 +9,7 @@ pub use Rattle.ripng_world.specs.Convergence.{IsNeverQuiet}
 pub use Rattle.ripng_world.specs.Healing.{FitsTablesSince, IsHealed, network_now}
 pub use Rattle.ripng_world.specs.Network.{Network, Node, AreLinked, config_of, IsNetwork, OwnsPrefixes}
 pub use Rattle.ripng_world.specs.Packets.{Forwardings, PacketsArriveBy}
-pub use Rattle.ripng_world.specs.Past.{Past, IsBackedSince, IsLeastSince}
+pub use Rattle.ripng_world.specs.Past.{Past, IsBackedSince, IsLeastSince, OwnsSince}
 pub use Rattle.ripng_world.specs.TruthSince.{IsSoundDatagramSince}
 pub use Rattle.ripng_world.specs.Walks.{IsLeast, IsBacked}
 pub use Rattle.ripng_world.specs.World.{World, Event, Deliver, is_heard, IsCold, WorldRun, address_at, is_to_group, sent_by, Shutdown, Happens}

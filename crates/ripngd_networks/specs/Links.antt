@@ -1,6 +1,6 @@
 -- Networks of daemons, and all that is known of the links between them.
 use Rattle.std.specs.Prelude.{◌≡◌, ℕ, ◌<◌, ◌&&◌, ◌⊎◌, ⊤, List, [], ◌∷◌, ◌++◌, length, map, filter_map, flat_map, Contains, Option, None, Some, is_none, slice_get, IsFalse}
-use Rattle.ripngd_networks.specs.Below.{AllByRecursion, is_response, Config, fault, Outgoing, Network, Node, AreLinked, config_of, Past, World, Event, IsCold, WorldRun, address_at, is_to_group, sent_by, Sent, Call, Datagram, Gave, Handed, Machine, arrival}
+use Rattle.ripngd_networks.specs.Below.{AllByRecursion, is_response, Config, fault, Outgoing, Network, Node, AreLinked, config_of, Past, World, Event, IsCold, WorldRun, address_at, sent_by, Sent, Call, Datagram, Gave, Handed, Machine, arrival}
 use Rattle.ripngd_networks.specs.Daemons.{Act, Listen, Happened, Lives, reconfigurations_by, own_deeds}
 
 -- the datagram that a call handed to a link, if it is such a call
@@ -13,13 +13,12 @@ abbrev pub handed_by : Happened → List Sent
 handed_by h = map (sent_by h.router) (filter_map handed_in h.deed.trace.calls)
 
 -- a datagram that was handed to a link comes from it as it is: with the address of the interface that sent it, from the port of
--- RIPng (RFC 2080, 2.1), with hop limit 255, and to the group exactly if it was sent to it (RFC 2080, 2.5)
+-- RIPng (RFC 2080, 2.1), and with hop limit 255 (RFC 2080, 2.5)
 pub record IsCopyOf (net : Network) (sent : Sent) (router : ℕ) (d : Datagram) : Type 0 where
   pub linked : AreLinked net sent.router sent.iface router d.iface
   pub source : d.source ≡ address_at net sent.router sent.iface
   pub port : d.source_port ≡ 521
   pub hops : d.hop_limit ≡ 255
-  pub to : d.to_group ≡ is_to_group sent.to
   pub bytes : d.bytes ≡ sent.bytes
 
 -- such a datagram was handed over before

@@ -1,8 +1,9 @@
 -- Networks of daemons by one true clock, in milliseconds, which no daemon sees: what is known of links and daemons that heal.
 --
--- The law is `daemons_heal`. Whatever daemons did before: for 28 minutes none is started anew, none is reconfigured and none runs out of
--- memory. Each ticks every half second, by a clock that is a constant behind the true one, within less than half a second. Links keep
--- order, lose no regular update, and take less than 13 seconds. Then each forwarding table has exactly the least costs of now.
+-- The law is `daemons_heal`. Whatever daemons did before: for 28 minutes none is started anew, shut down or reconfigured, no link goes
+-- down or comes up, and none runs out of memory. Each ticks every half second, by a clock that is a constant behind the true one, within
+-- less than half a second. Links keep order, lose no regular update, and take less than 13 seconds. Then each forwarding table has
+-- exactly the least costs of now.
 --
 -- Each 59 seconds are then a phase. By its own clock a daemon's next regular update is due 45 seconds after any moment, at the latest;
 -- half a second more is its clock's, another half until it ticks, and 13 seconds are the links'. And 118 seconds of the true clock are
@@ -45,7 +46,7 @@ AreNumbered net handed (t ∷ history) =
 
 -- ---- daemons that go on
 
--- it starts no daemon anew and shuts none down, takes no link down, and changes no configuration
+-- it starts no daemon anew and shuts none down, takes no link down or up, and changes no configuration
 abbrev pub IsPlain : Act → Type 0
 IsPlain Start = ⊥
 IsPlain (Reconfigure c) = ⊥
@@ -77,7 +78,7 @@ pub record GoOn (net : Network) (before : List Happened) (daemons : ℕ → Opti
   pub given : AreNumbered net (all_handed before) history
   pub in_time : HappenFrom start history
   pub ended : AllByRecursion (λ t. t.at < end) history
-  -- none is started anew, and none reconfigured
+  -- none is started anew, shut down or reconfigured, and no link goes down or comes up
   pub plain : AllByRecursion (λ t. IsPlain t.happened.deed.act) history
   -- each ticks every half second
   pub ticks : (router from : ℕ) → router < length net → start ≤ from → from + 500 ≤ end → IsTickIn history router from (from + 500)

@@ -1,7 +1,7 @@
 //! Laws of networks of daemons. Each is the contract of an empty function: it follows from the definitions alone.
 
-ghost use Rattle.std.specs.Prelude.{◌≡◌, ℕ, ◌+◌, ◌*◌, ◌<◌, ◌≤◌, List, [], ◌∷◌, ◌++◌, length, Contains, Option, Some, Result, false};
-ghost use Rattle.ripngd_networks.specs.Common.{AllByRecursion, Stream, Forward, Prefix6, RouteValue, infinity, forward, forwards, Config, IsNeverQuiet, FitsTablesSince, IsHealed, network_now, Network, IsNetwork, OwnsPrefixes, IsBacked, IsLeast, IsBackedSince, IsLeastSince, IsSoundDatagramSince, Sent, Change, LinkComesUpOnce, LinkGoesDownOnce, ReconfigureAnswer, ShutsDownOnce, StepAnswer, Machine, all_joined, Seen, Outside, Shows, Started, TurnsAnswer, EngineFault, ChangeFault, Deed, Start, Happened, Lives, reconfigurations_by, in_force, traces_of, HaveRun, IsRunOf, LiveOn, all_handed, past_of_daemons, AreOnTime, Dated, ForwardsLeast, GoOn, HappenFrom, undated, AllGoOn, forwardings_by, PacketsArriveBy};
+ghost use Rattle.std.specs.Prelude.{◌≡◌, ℕ, ◌+◌, ◌-◌, ◌*◌, ◌<◌, ◌≤◌, List, [], ◌∷◌, ◌++◌, length, Contains, Option, Some, Result, false};
+ghost use Rattle.ripngd_networks.specs.Common.{AllByRecursion, Stream, Forward, Prefix6, RouteValue, infinity, forward, forwards, Config, IsNeverQuiet, FitsTablesSince, IsHealed, network_now, Network, IsNetwork, OwnsPrefixes, IsBacked, IsLeast, IsBackedSince, IsLeastSince, OwnsSince, IsSoundDatagramSince, Sent, Change, LinkComesUpOnce, LinkGoesDownOnce, ReconfigureAnswer, ShutsDownOnce, StepAnswer, Machine, all_joined, Seen, Outside, Shows, Started, TurnsAnswer, EngineFault, ChangeFault, Deed, Start, Happened, Lives, reconfigurations_by, in_force, traces_of, HaveRun, IsRunOf, LiveOn, all_handed, past_of_daemons, AreOnTime, Dated, ForwardsLeast, GoOn, HappenFrom, undated, AllGoOn, forwardings_by, PacketsArriveBy, GoOnAnyhow, IsAwake, past_since};
 ghost use Rattle.std.specs.FinMap as map_of;
 
 /// What the contracts of an engine say is a daemon's life: its start, whatever was before; its turns, also those that end early
@@ -58,8 +58,8 @@ pub fn daemons_invent_no_distance()
 {}
 
 /// Networks of daemons heal by themselves. Whatever was before, let daemons run for 28 minutes of a true clock that none of them
-/// sees. No daemon starts, shuts down or is reconfigured, no link goes down, each daemon ticks every half second, and memory
-/// suffices. Links keep order, lose no regular update, and take less than 13 seconds. Then each daemon holds, and forwards by,
+/// sees. No daemon starts, shuts down or is reconfigured, no link goes down or comes up, each daemon ticks every half second, and
+/// memory suffices. Links keep order, lose no regular update, and take less than 13 seconds. Then each daemon holds, and forwards by,
 /// exactly the least costs of now, at each moment from then on while these conditions last.
 pub fn daemons_heal()
     ensures healed { (net : Network) (before : List Happened) (daemons daemons' : ℕ → Option Machine) (history : List Dated) (start stop : ℕ)
@@ -98,4 +98,36 @@ pub fn daemons_deliver()
         → until ≤ stop → AllByRecursion (λ t. t.at < until) early → HappenFrom until late
         → LiveOn net (undated early) daemons now → LiveOn net (undated late) now daemons'
         → AllGoOn net now → PacketsArriveBy (network_now (past_of_daemons net before)) (forwardings_by net now) }
+{}
+
+/// Daemons forget old news, whatever is lost, repeated or overtaken, and whichever daemons start anew, shut down, are reconfigured or
+/// lose a link. What a link gives was handed over less than 15 seconds before. A daemon that does anything ticks each second, no
+/// tick is lost for memory, and its clock loses at most a second. Then each route, and each entry that a daemon forwards by, rests on
+/// costs and owners in force at some moment of the last 46 minutes. A prefix that nobody has owned for so long is forwarded nowhere.
+/// Healing asks for all of this, and for more.
+pub fn daemons_forget_old_news()
+    ensures by_metric { (net : Network) (before : List Happened) (daemons daemons' : ℕ → Option Machine) (history : List Dated) (start stop : ℕ)
+        → IsNetwork net → HaveRun net before daemons → GoOnAnyhow net before daemons history start daemons'
+        → (router : ℕ) (m : Machine) (p : Prefix6) (r : RouteValue) → router < length net → daemons' router ≡ Some m → IsAwake history router stop
+        → map_of.get m.router.table p ≡ Some r → r.metric < infinity → start + (r.metric - 1) * 197_000 ≤ stop
+        → IsBackedSince (past_since net before history) router p r }
+    ensures by_age { (net : Network) (before : List Happened) (daemons daemons' : ℕ → Option Machine) (early late : List Dated) (start from stop : ℕ)
+        → IsNetwork net → HaveRun net before daemons → GoOnAnyhow net before daemons (early ++ late) start daemons'
+        → start ≤ from → AllByRecursion (λ t. t.at < from) early → HappenFrom from late
+        → (router : ℕ) (m : Machine) (p : Prefix6) (r : RouteValue) → router < length net → daemons' router ≡ Some m → IsAwake (early ++ late) router stop
+        → map_of.get m.router.table p ≡ Some r → r.metric < infinity → from + (r.metric - 1) * 197_000 ≤ stop
+        → IsBackedSince (past_since net (before ++ undated early) late) router p r }
+    ensures backed { (net : Network) (before : List Happened) (daemons daemons' : ℕ → Option Machine) (history : List Dated) (start stop : ℕ)
+        → IsNetwork net → HaveRun net before daemons → GoOnAnyhow net before daemons history start daemons' → start + 46 * 60_000 ≤ stop
+        → (router : ℕ) (m : Machine) (p : Prefix6) (f : Forward) → router < length net → daemons' router ≡ Some m → m.ended ≡ false → IsAwake history router stop
+        → map_of.get m.fib p ≡ Some f
+        → (r : RouteValue) × (map_of.get m.router.table p ≡ Some r) × (forward r ≡ Some f) × IsBackedSince (past_since net before history) router p r }
+    ensures gone { (net : Network) (before : List Happened) (daemons daemons' : ℕ → Option Machine) (history : List Dated) (start stop : ℕ)
+        → IsNetwork net → HaveRun net before daemons → GoOnAnyhow net before daemons history start daemons' → start + 46 * 60_000 ≤ stop
+        → (router : ℕ) (m : Machine) (p : Prefix6) (f : Forward) → router < length net → daemons' router ≡ Some m → m.ended ≡ false → IsAwake history router stop
+        → ((owner tag : ℕ) → OwnsSince (past_since net before history) owner p tag → ⊥)
+        → map_of.get m.fib p ≡ Some f → ⊥ }
+    ensures weaker { (net : Network) (before : List Happened) (daemons daemons' : ℕ → Option Machine) (history : List Dated) (start stop : ℕ)
+        → GoOn net before daemons history start stop daemons' → AreOnTime net before daemons history start stop
+        → GoOnAnyhow net before daemons history start daemons' }
 {}

@@ -1,4 +1,5 @@
 -- The names that the clauses of this crate cite, passed on from one place. Declares nothing.
+pub use Rattle.std.specs.Borrow.{ftrue}
 pub use Rattle.std.specs.Duration.{as_nanos}
 pub use Rattle.std.specs.IoError.{error_kind}
 pub use Rattle.std.specs.Result.{result_err}

@@ -21,7 +21,7 @@ const TAKEN_AT_ONCE: u32 = 512;
 pub(crate) struct Counts {
     /// Datagrams that waited and then could not be sent, also because their peer was removed.
     pub(crate) failed_sends: u64,
-    /// Datagrams of peers that were lost because the queue was full, or for want of memory.
+    /// Datagrams of peers that were lost because the queue was full, or memory was refused.
     pub(crate) lost_arrivals: u64,
     /// Datagrams that came from a port of no peer.
     pub(crate) strangers: u64,

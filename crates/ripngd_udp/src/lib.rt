@@ -3,6 +3,7 @@
 
 mod clock;
 mod endpoint;
+mod moments;
 mod pace;
 mod peer_refused;
 mod peer_table;

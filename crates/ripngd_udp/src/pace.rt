@@ -11,7 +11,7 @@ const AT_ONCE: usize = 64;
 /// After how many milliseconds it may get as many again.
 const PAUSE_MS: u64 = 16;
 
-/// How many datagrams an interface with so many peers may send without a pause: its share, and at least one.
+/// How many datagrams an interface with that number of peers may send without a pause: its share, and at least one.
 pub(crate) fn share_among(peers: usize) -> usize
     ensures share { result ≡ share_among peers }
     ensures some { 1 ≤ result }
@@ -39,7 +39,7 @@ impl Pace {
     }
 
     /// How many of `wanted` datagrams may go out at a moment, in milliseconds, where `share` may without a pause. They are counted as
-    /// sent, and the pause begins behind them: so no more than a share goes out in any 16 milliseconds.
+    /// sent, and the pause begins after them: so no more than a share goes out in any 16 milliseconds.
     pub(crate) fn take(&mut self, wanted: usize, share: usize, now: u64) -> usize
         requires { share ≤ 64 }
         ensures paused { now < self.old.opens → (result ≡ min wanted self.old.left) × (self.new.left ≡ self.old.left - result) }

@@ -105,7 +105,7 @@ impl ReceiveQueue {
         Ok(())
     }
 
-    /// Keeps the room of a datagram that was given out, if it is of use: to take memory anew for each costs more than to copy
+    /// Keeps the memory of a datagram that was given out, if another fits in it: to take memory anew for each costs more than to copy
     /// its bytes.
     fn spare(&mut self, room: Vec<u8>)
         ensures waiting { self.new.waiting ≡ self.old.waiting }

@@ -12,8 +12,8 @@ use std::time::Duration;
 /// How often a turn polls at most.
 const LOOKS: u32 = 64;
 
-/// For how many milliseconds more datagrams may come behind one that came, so that the process is woken once for all of them. The
-/// pace of the neighbors leaves room for these in the socket.
+/// For how many milliseconds after a datagram more may arrive, so that the process is woken once for all of them. The pace of the
+/// neighbors leaves room for these in the socket.
 const GATHER_MS: u64 = 12;
 
 impl<R: Clock> Udp<'_, R> {

@@ -81,13 +81,13 @@ pub struct Udp<'a, R: Clock> {
     pub(crate) clock: Uptime<'a, R>,
     /// The interface that is served next.
     pub(crate) next: usize,
-    /// How many milliseconds behind the end of the last `recv` the next one waits, if nothing comes.
+    /// How many milliseconds after the end of the last `recv` the next one waits, if nothing arrives.
     pub(crate) pause: u64,
     /// When the last `recv` ended, in milliseconds.
     pub(crate) since: u64,
     /// Whether the last `recv` gave no datagram.
     pub(crate) was_silent: bool,
-    /// Whether a datagram came when it was looked for one last, so that more are to be expected.
+    /// Whether the last poll found a datagram, so that more are to be expected.
     pub(crate) is_busy: bool,
     /// Whether something was there to read at what is watched, in the last `recv`.
     pub(crate) was_called: bool,
@@ -199,7 +199,7 @@ impl<'a, R: Clock> Udp<'a, R> {
         }
     }
 
-    /// Has the next `recv` wait, if no datagram comes, until so many milliseconds have passed since the last one, at most 400.
+    /// Has the next `recv` wait, if no datagram arrives, until `ms` milliseconds have passed since the last one, at most 400.
     pub fn wait_at_most(&mut self, ms: u64)
         ensures { self.new ≡ self.old }
     {

@@ -1,5 +1,5 @@
 use Rattle.std.proofs.Common.{◌+◌, arith, inl, inr}
-use Rattle.ripngd_daemon.proofs.Runs.{has_done_nothing, turns_more}
+use Rattle.ripngd_daemon.proofs.Runs.{deaf_after, ended_after, has_done_nothing, refused_after, turns_more}
 use Rattle.ripngd_daemon.proofs.turns.make_turns.Goals as goal
 
 pub loop-done-init : goal.loop-done-init
@@ -28,6 +28,7 @@ returns-in-Ok-Stopped-clause-lasts g c =
           turns_more c.args.order.seconds c.loop-done.done _ _ _ _ _ c.loop-done.invariant.has_done
           (c.is_over.ensures.in_time c.if-is_over.false) c.in-Ok-Stopped.ensures.does;
       ends = inr (inr (c.in-Ok-Stopped.ensures.stops c.in-Ok-Stopped.field-0-is));
+      goes_on = (rw c.in-Ok-Stopped.field-0-is at c.in-Ok-Stopped.ensures.goes_on) (λ e. cc e);
     }
 
 pub returns-then-is_over-clause-lasts : goal.returns-then-is_over-clause-lasts
@@ -38,6 +39,7 @@ returns-then-is_over-clause-lasts g c =
       within = omega arith;
       has_done = c.loop-done.invariant.has_done;
       ends = inr (inl (c.is_over.ensures.over c.if-is_over.true));
+      goes_on = c.loop-done.invariant.going;
     }
 
 pub returns-clause-lasts : goal.returns-clause-lasts
@@ -48,4 +50,22 @@ returns-clause-lasts g c =
       within = omega arith;
       has_done = c.loop-done.invariant.has_done;
       ends = inl (omega arith);
+      goes_on = c.loop-done.invariant.going;
     }
+
+pub returns-in-Ok-Ended-clause-fails : goal.returns-in-Ok-Ended-clause-fails
+returns-in-Ok-Ended-clause-fails g c =
+    ended_after c.args.order.seconds (c.loop-done.done + 1) _ _ _
+    (turns_more c.args.order.seconds c.loop-done.done _ _ _ _ _ c.loop-done.invariant.has_done
+    (c.is_over.ensures.in_time c.if-is_over.false) c.in-Ok-Ended.ensures.does)
+
+pub returns-in-Err-OutOfMemory-clause-fails : goal.returns-in-Err-OutOfMemory-clause-fails
+returns-in-Err-OutOfMemory-clause-fails g c =
+    let fails = rw c.in-Err-OutOfMemory.field-0-is at c.in-Err-OutOfMemory.ensures.fails in
+    refused_after c.args.order.seconds c.loop-done.done _ _ _ _ _ c.loop-done.invariant.has_done c.loop-done.invariant.going
+    (c.is_over.ensures.in_time c.if-is_over.false) fails.0 fails.1
+
+pub returns-in-Err-LinkFault-clause-fails : goal.returns-in-Err-LinkFault-clause-fails
+returns-in-Err-LinkFault-clause-fails g c =
+    let fails = rw c.in-Err-LinkFault.field-0-is at c.in-Err-LinkFault.ensures.fails in
+    deaf_after c.args.order.seconds c.loop-done.done _ _ _ _ _ _ c.loop-done.invariant.has_done fails.0 fails.1

@@ -5,7 +5,7 @@ use Rattle.ripngd_daemon.proofs.turns.turn.Goals as goal
 pub returns-clause-does : goal.returns-clause-does
 returns-clause-does g c =
     let ran = c.in_ok-turns_observed.ensures.runs (rw c.change_link.ensures c.requires) in
-    (seen words_of g.W.Write.contents c.turns_observed.new.self c.turns_observed.new.log, rw c.change_link.ensures at ran.1, c.serve_clients-state.ensures.heeds)
+    (seen words_of g.W.Write.contents c.turns_observed.new.self c.turns_observed.new.log, rw c.change_link.ensures at ran.1, ran.0, c.serve_clients-state.ensures.heeds)
 
 pub serve_clients-state-requires : goal.serve_clients-state-requires
 serve_clients-state-requires g c = (c.in_ok-turns_observed.ensures.runs (rw c.change_link.ensures c.requires)).0

@@ -1,0 +1,5 @@
+pub mod Lives
+pub mod Networks
+pub mod Dated
+pub mod Below
+pub mod Common
