@@ -21,6 +21,7 @@ answer_kept holds history (asks.Check file) true old mid new (text, held, (confi
     (text, held, (config, is, appends_kept _ old mid new wrote kept))
 answer_kept holds history (asks.Check file) false old mid new answer kept = answer
 answer_kept holds history (asks.Lab file) accepted old mid new answer kept = answer
+answer_kept holds history (asks.Mark marking) accepted old mid new answer kept = answer
 answer_kept holds history (asks.Trace file) accepted old mid new answer kept = answer
 answer_kept holds history (asks.Explain file) accepted old mid new answer kept = answer
 answer_kept holds history (asks.Changes file) accepted old mid new answer kept = answer

@@ -1,5 +1,5 @@
 -- What the exit statuses of ripngd mean (they are this project's choice).
-use Rattle.std.specs.Prelude.{◌≢◌, ◌⊎◌, ℕ, Bool, List, [], Option, ⊤}
+use Rattle.std.specs.Prelude.{◌≢◌, ◌⊎◌, ℕ, Bool, IfSome, List, [], Option, ⊤}
 use Rattle.std.specs.Io.KnownBytes.{Appends}
 use Rattle.clap.specs.Faults.{fault_of}
 use Rattle.clap.specs.Kinds.{IsAmong}
@@ -7,6 +7,7 @@ use Rattle.clap.specs.Walk.{Text}
 use Rattle.clap.specs.declared.error.kind.ErrorKind.TheVariants.{DisplayHelp, DisplayVersion}
 use Rattle.ripngd_command_line.specs.declared.asked.Ask.{Ask}
 use Rattle.ripngd_command_line.specs.declared.asked.Ask.TheVariants as asks
+use Rattle.ripngd_command_line.specs.declared.asked.Marking.{Marking}
 use Rattle.ripngd_daemon.specs.declared.failure.Failure.{Failure}
 use Rattle.ripngd_daemon.specs.declared.history.History.{History}
 use Rattle.ripngd_daemon.specs.declared.failure.Failure.TheVariants as failures
@@ -19,6 +20,11 @@ use Rattle.ripngd_daemon.specs.Run.{IsRan}
 use Rattle.ripngd_daemon.specs.Tabled.{IsTabled}
 use Rattle.ripngd_show.specs.Shown.{IsShown}
 
+-- there is a text that the file of a script may hold; and one of the exercise, if there is one
+abbrev pub AreHeld : (List ℕ → List ℕ → Type 0) → Marking → Type 0
+AreHeld holds marking =
+    ((script : List ℕ) × holds marking.script.now script) × IfSome marking.exercise (λ file. (exercise : List ℕ) × holds file.now exercise)
+
 -- the bytes of a writer grew by the answer to what is asked, of a text that the file which is asked about may hold, and of a run of
 -- which this is known. What `lab` prints, and that a trace is that of its script, is not said here
 abbrev pub AnswersAsk : (List ℕ → List ℕ → Type 0) → History → Ask → Bool → Option (List ℕ) → Option (List ℕ) → Type 0
@@ -26,6 +32,7 @@ AnswersAsk holds history (asks.Show hex) accepted old new = (text : List ℕ) ×
 AnswersAsk holds history (asks.Check file) accepted old new =
     (config : List ℕ) × holds file.now config × IsChecked config accepted old new
 AnswersAsk holds history (asks.Lab file) accepted old new = (script : List ℕ) × holds file.now script
+AnswersAsk holds history (asks.Mark marking) accepted old new = AreHeld holds marking
 AnswersAsk holds history (asks.Trace file) accepted old new = (script : List ℕ) × holds file.now script
 AnswersAsk holds history (asks.Explain file) accepted old new = (script : List ℕ) × holds file.now script
 AnswersAsk holds history (asks.Changes file) accepted old new = (script : List ℕ) × holds file.now script

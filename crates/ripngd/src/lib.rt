@@ -4,7 +4,7 @@
 mod status;
 mod subcommands;
 
-pub use ripngd_command_line::{Ask, Order, Question, VERSION, ask};
+pub use ripngd_command_line::{Ask, Marking, Order, Question, VERSION, ask};
 pub use ripngd_config::{Config, ConfigFault, read_config};
 pub use ripngd_daemon::{check, table};
 pub use ripngd_engine::{
@@ -13,4 +13,4 @@ pub use ripngd_engine::{
 pub use ripngd_show::{PrintFault, show};
 pub use ripngd_udp::{Udp, UdpError, Uptime};
 pub use status::program;
-pub use subcommands::{explain, lab, trace};
+pub use subcommands::{explain, lab, mark, trace};

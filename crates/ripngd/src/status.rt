@@ -1,18 +1,19 @@
 //! The whole program, on two writers: each subcommand, and its exit status.
 
-ghost use Rattle.std.specs.Prelude.{◌≡◌, ◌≢◌, ◌⊎◌, ◌≤◌, IfErr, IfOk, Ok, false, map, true};
+ghost use Rattle.std.specs.Prelude.{◌≡◌, ◌≢◌, ◌⊎◌, ◌≤◌, IfErr, IfOk, Ok, OnOk, false, map, true};
 ghost use Rattle.clap.specs.Words.{kind_of};
-ghost use Rattle.ripngd.specs.Exit.{AnswersAsk, AnswersWords, AsksForHelp, FailsWords, HaveFault, holds_any};
+ghost use Rattle.ripngd.specs.Exit.{AnswersAsk, AnswersWords, AreHeld, AsksForHelp, FailsWords, HaveFault, holds_any};
 ghost use Rattle.ripngd_daemon.specs.Failing.{MayFail};
 
-use crate::subcommands::{explain, trace};
+use crate::subcommands::{explain, mark, trace};
 use clap::error::ErrorKind;
-use ripngd_command_line::{Ask, ask, misuse_of};
+use ripngd_command_line::{Ask, Marking, ask, misuse_of};
 use ripngd_daemon::{
     Failure, FileSource, History, System, SystemFiles, check_file, ctl, run, table_file,
     write_failure, write_losses,
 };
 use ripngd_show::{PrintFault, show};
+use std::alloc::Global;
 use std::io::{self, Write};
 
 /// The exit status of the program.
@@ -115,6 +116,7 @@ fn accepts<'a, R: System, F: FileSource, O: Write, E: Write>(
             let done = ripngd_lab::lab_hinted(rt.alloc(), script.as_slice(), out, err);
             Ok(done.map_err(PrintFault::from)?)
         }
+        Ask::Mark(marking) => mark_files(rt.alloc(), files, marking, out, err),
         Ask::Trace(file) => Ok(trace(rt.alloc(), files.read(file)?.as_slice(), out)?),
         Ask::Explain(file) => Ok(explain(rt.alloc(), files.read(file)?.as_slice(), false, out)?),
         Ask::Changes(file) => Ok(explain(rt.alloc(), files.read(file)?.as_slice(), true, out)?),
@@ -122,6 +124,26 @@ fn accepts<'a, R: System, F: FileSource, O: Write, E: Write>(
         Ask::Ctl(question) => ctl(rt, question, out),
         Ask::Table(file) => table_file(rt.alloc(), files, file, out),
     }
+}
+
+/// Marks the script of a file, against the exercise of another if there is one, and returns whether it passes.
+fn mark_files<'a, F: FileSource, O: Write, E: Write>(
+    alloc: Global,
+    files: &F,
+    marking: Marking<'a>,
+    out: &mut O,
+    err: &mut E,
+) -> Result<bool, Failure<'a>>
+    ensures held { OnOk result (AreHeld (F.holds files.now) marking.entry) }
+    ensures failed { IfErr result (MayFail (Ask.Mark marking.entry)) }
+{
+    let script = files.read(marking.script)?;
+    let exercise = match marking.exercise {
+        Some(file) => Some(files.read(file)?),
+        None => None,
+    };
+    let exercise = exercise.as_ref().map(|exercise| exercise.as_slice());
+    Ok(mark(alloc, script.as_slice(), exercise, marking.counts, out, err)?)
 }
 
 /// Runs a subcommand, and flushes its output.

@@ -1,4 +1,4 @@
-//! The subcommand `lab` on a text: it simulates a network of routers from a script, with or without a trace or an explanation.
+//! The subcommand `lab` on a text: it simulates a network of routers from a script, with or without a trace or an explanation, or marks it.
 
 use ripngd_show::PrintFault;
 use std::alloc::Global;
@@ -10,6 +10,21 @@ use std::io::Write;
 /// `OutOfMemory` or `Write`. What earlier lines printed may have been written.
 pub fn lab<W: Write>(alloc: Global, script: &[u8], out: &mut W) -> Result<bool, PrintFault> {
     Ok(ripngd_lab::lab(alloc, script, out)?)
+}
+
+/// Runs a script, as [`ripngd_lab::lab_marked`] does, and returns whether it passes.
+///
+/// # Errors
+/// `OutOfMemory` or `Write`. What earlier lines printed may have been written.
+pub fn mark<W: Write, E: Write>(
+    alloc: Global,
+    script: &[u8],
+    exercise: Option<&[u8]>,
+    counts: bool,
+    out: &mut W,
+    err: &mut E,
+) -> Result<bool, PrintFault> {
+    Ok(ripngd_lab::lab_marked(alloc, script, exercise, counts, out, err)?)
 }
 
 /// Runs a script, as [`ripngd_trace::trace`] does, and returns whether every line was done.

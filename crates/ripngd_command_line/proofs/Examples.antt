@@ -105,3 +105,13 @@ plus_is_taken = refl
 minus_is_taken : takes ripngd (codes "ripngd" ∷ codes "run" ∷ codes "-t-0" ∷ codes "c" ∷ []) ≡ true
 unfolding clap_on_literals
 minus_is_taken = refl
+
+-- `lab --count --against e s`: a script is marked
+marking_is_taken : takes ripngd (codes "ripngd" ∷ codes "lab" ∷ codes "--count" ∷ codes "--against" ∷ codes "e" ∷ codes "s" ∷ []) ≡ true
+unfolding clap_on_literals
+marking_is_taken = refl
+
+-- `lab --against e`: and there has to be one
+solution_is_missing : fault_of ripngd (codes "ripngd" ∷ codes "lab" ∷ codes "--against" ∷ codes "e" ∷ []) ≡ MissingRequiredArgument ∷ []
+unfolding clap_on_literals
+solution_is_missing = refl

@@ -4,6 +4,7 @@ use Rattle.std.specs.Str.Parse.{digits_value, without_leading_plus}
 use Rattle.clap.specs.Walk.{Row, Text, first_of, one_of}
 use Rattle.clap.specs.Simple.{subcommand_of}
 use Rattle.ripngd_command_line.specs.declared.asked.Ask.{Ask}
+use Rattle.ripngd_command_line.specs.declared.asked.Marking.{Marking}
 use Rattle.ripngd_command_line.specs.declared.asked.Order.{Order}
 use Rattle.ripngd_command_line.specs.declared.asked.Question.{Question}
 use Rattle.ripngd_command_line.specs.declared.asked.Ask.TheVariants as asks
@@ -67,6 +68,16 @@ abbrev pub IsMisused : Ask → Type 0
 IsMisused (asks.Run order) = GoesOnInNoFile order ⊎ IsTrue order.signed
 IsMisused _ = ⊥
 
+-- the rows of `lab` say that a script is marked: against an exercise, or by a count
+abbrev pub AreOfMarking : List Row → Type 0
+AreOfMarking rows = (first_of (codes "against") rows ≢ None) ⊎ IsSet rows (codes "count")
+
+-- and so they say how
+pub record IsMarking (marking : Marking) (rows : List Row) : Type 0 where
+  pub script : first_of (codes "SCRIPT") rows ≡ Some marking.script.now
+  pub exercise : option_map (λ s. s.now) marking.exercise ≡ first_of (codes "against") rows
+  pub counts : IsTrue marking.counts ↔ IsSet rows (codes "count")
+
 -- the rows of `ctl` ask this
 pub record IsQuestion (question : Question) (rows : List Row) : Type 0 where
   pub socket : first_of (codes "PATH") rows ≡ Some question.socket.now
@@ -82,15 +93,17 @@ IsAsked (asks.Show hex) name rows =
 IsAsked (asks.Check file) name rows =
     (name ≡ codes "check") × (first_of (codes "CONFIG") rows ≡ Some file.now)
 IsAsked (asks.Lab file) name rows =
-    (name ≡ codes "lab") × (first_of (codes "SCRIPT") rows ≡ Some file.now) × ¬ (IsSet rows (codes "trace")) × ¬ (IsSet rows (codes "changes"))
-    × ¬ (IsSet rows (codes "explain"))
+    (name ≡ codes "lab") × (first_of (codes "SCRIPT") rows ≡ Some file.now) × ¬ (AreOfMarking rows) × ¬ (IsSet rows (codes "trace"))
+    × ¬ (IsSet rows (codes "changes")) × ¬ (IsSet rows (codes "explain"))
+IsAsked (asks.Mark marking) name rows = (name ≡ codes "lab") × AreOfMarking rows × IsMarking marking rows
 IsAsked (asks.Explain file) name rows =
-    (name ≡ codes "lab") × (first_of (codes "SCRIPT") rows ≡ Some file.now) × ¬ (IsSet rows (codes "trace")) × ¬ (IsSet rows (codes "changes"))
-    × IsSet rows (codes "explain")
+    (name ≡ codes "lab") × (first_of (codes "SCRIPT") rows ≡ Some file.now) × ¬ (AreOfMarking rows) × ¬ (IsSet rows (codes "trace"))
+    × ¬ (IsSet rows (codes "changes")) × IsSet rows (codes "explain")
 IsAsked (asks.Changes file) name rows =
-    (name ≡ codes "lab") × (first_of (codes "SCRIPT") rows ≡ Some file.now) × ¬ (IsSet rows (codes "trace")) × IsSet rows (codes "changes")
+    (name ≡ codes "lab") × (first_of (codes "SCRIPT") rows ≡ Some file.now) × ¬ (AreOfMarking rows) × ¬ (IsSet rows (codes "trace"))
+    × IsSet rows (codes "changes")
 IsAsked (asks.Trace file) name rows =
-    (name ≡ codes "lab") × (first_of (codes "SCRIPT") rows ≡ Some file.now) × IsSet rows (codes "trace")
+    (name ≡ codes "lab") × (first_of (codes "SCRIPT") rows ≡ Some file.now) × ¬ (AreOfMarking rows) × IsSet rows (codes "trace")
 IsAsked (asks.Run order) name rows = (name ≡ codes "run") × IsOrdered order rows
 IsAsked (asks.Ctl question) name rows = (name ≡ codes "ctl") × IsQuestion question rows
 IsAsked (asks.Table file) name rows =

@@ -62,9 +62,16 @@ show_command = subcommand (codes "show") (required (codes "HEX") ∷ [])
 abbrev pub check_command : App
 check_command = subcommand (codes "check") (required (codes "CONFIG") ∷ [])
 
--- `lab [--trace] [--explain] [--changes] SCRIPT`
+-- `lab [--trace] [--explain] [--changes] [--against EXERCISE] [--count] SCRIPT`
 abbrev pub lab_command : App
-lab_command = subcommand (codes "lab") (flag (by_name (codes "trace")) ∷ flag (by_name (codes "explain")) ∷ flag (by_name (codes "changes")) ∷ required (codes "SCRIPT") ∷ [])
+lab_command = subcommand (codes "lab") (
+    flag (by_name (codes "trace"))
+    ∷ flag (by_name (codes "explain"))
+    ∷ flag (by_name (codes "changes"))
+    ∷ valued (by_name (codes "against"))
+    ∷ flag (by_name (codes "count"))
+    ∷ required (codes "SCRIPT")
+    ∷ [])
 
 -- `run [-q] [-d] [-t TAG] [-R FILE] [--append] [--turns N] [--seconds N] [--control PATH] CONFIG`
 abbrev pub run_command : App

@@ -12,6 +12,8 @@ pub enum Ask<'a> {
     Check(&'a str),
     /// `lab SCRIPT`: runs a script.
     Lab(&'a str),
+    /// `lab [--against EXERCISE] [--count] SCRIPT`, with one of both at least: runs it, and marks it.
+    Mark(Marking<'a>),
     /// `lab --trace SCRIPT`: runs it, and prints each event as JSON.
     Trace(&'a str),
     /// `lab --explain SCRIPT`: runs it, and prints each event in English.
@@ -24,6 +26,17 @@ pub enum Ask<'a> {
     Ctl(Question<'a>),
     /// `table LOG`: prints the forwarding table that a log makes.
     Table(&'a str),
+}
+
+/// How `lab` marks a script.
+#[derive(Clone, Copy, Debug, PartialEq, Eq)]
+pub struct Marking<'a> {
+    /// The file of the script.
+    pub script: &'a str,
+    /// The file of the exercise that it is to solve, if there is one.
+    pub exercise: Option<&'a str>,
+    /// Whether a line says how many expectations were met.
+    pub counts: bool,
 }
 
 /// The options of `run`.

@@ -5,7 +5,7 @@ ghost use Rattle.clap.specs.Words.{FailsBy, Row, Text, fault_of, first_of, found
 ghost use Rattle.ripngd_command_line.specs.Asked.{AreSeconds, Asks, HasNumber, HasSign, HasSignedOrder, IsAsked, IsSet};
 ghost use Rattle.ripngd_command_line.specs.CommandLine.{ripngd};
 
-use crate::asked::{Ask, Order, Question};
+use crate::asked::{Ask, Marking, Order, Question};
 use crate::subcommands::command;
 use clap::error::ErrorKind;
 use clap::{ArgMatches, Error};
@@ -59,12 +59,19 @@ fn asked_of<'a>(name: &'a str, matches: &ArgMatches<'a>) -> Option<Ask<'a>>
     }
 }
 
-/// `lab`, with `--trace` before `--changes`, and that before `--explain`, if both are given.
+/// `lab`, with `--against` and `--count` before `--trace`, that before `--changes`, and that before `--explain`, if several are given.
 fn lab_asked<'a>(matches: &ArgMatches<'a>) -> Option<Ask<'a>>
     ensures { IfSome result (λ a. IsAsked a (codes "lab") (rows_of (found_of matches.now))) }
 {
     let script = text(matches, "SCRIPT")?;
-    Some(if is_set(matches, "trace") {
+    let (exercise, counts) = (text(matches, "against"), is_set(matches, "count"));
+    Some(if counts || exercise.is_some() {
+        Ask::Mark(Marking {
+            script,
+            exercise,
+            counts,
+        })
+    } else if is_set(matches, "trace") {
         Ask::Trace(script)
     } else if is_set(matches, "changes") {
         Ask::Changes(script)

@@ -35,6 +35,8 @@ each run of a script gives the same. Its lines `print` and `sent` print. The
 first line that is refused ends it, with exit status 1.
 With `--explain` a line of English for each event says what a router received,
 what it did, and why.
+With `--against` and `--count` a script is marked, and there is no `--trace`,
+`--explain` or `--changes`.
 
 Example:
   ripngd lab --explain examples/line.lab";

@@ -28,7 +28,7 @@ fn check<'a>(alloc: Global) -> Result<Command<'a>, AllocError>
         .arg(arg!(in alloc; <CONFIG> "The file of the configuration"))
 }
 
-/// `lab [--trace] [--explain] [--changes] SCRIPT`.
+/// `lab [--trace] [--explain] [--changes] [--against EXERCISE] [--count] SCRIPT`.
 fn lab<'a>(alloc: Global) -> Result<Command<'a>, AllocError>
     ensures { IfOk result (λ c. IsCommand c lab_command) }
 {
@@ -41,6 +41,10 @@ fn lab<'a>(alloc: Global) -> Result<Command<'a>, AllocError>
             "Print each event as a line of English, beside what the script prints"))?
         .arg(arg!(in alloc; --changes
             "The same, without ticks and arrivals that change no forwarding table"))?
+        .arg(arg!(in alloc; --against <EXERCISE>
+            "Refuse SCRIPT unless it is EXERCISE, with one word for each `?`"))?
+        .arg(arg!(in alloc; --count
+            "Print at the end how many expectations were met"))?
         .arg(arg!(in alloc; <SCRIPT> "The file of the script"))
 }
 

@@ -94,7 +94,7 @@ fn has_sign(text: &str) -> bool
     text.bytes().any(|byte| byte == b'+' || byte == b'-')
 }
 
-/// The command of a text, with addresses, prefixes and numbers in any of their forms. A text with a sign is none.
+/// The command of a text, with addresses, prefixes and numbers in any of their forms. A text with a sign is no command.
 pub fn command_in(text: &str) -> Option<Command>
     ensures unsigned { IsTrue (has_sign text.now) → result ≡ None }
 {

@@ -124,6 +124,11 @@ module _ {V : Type 0} (st : V → LabValue → ℕ → V → Type 0) (t f : V �
   pub noted_on : (s : Option LabValue × V) (lab : Option LabValue) (v v' : V) → IsToldOfLab st t n s (lab, v) → n v Prints v' → IsToldOfLab st t n s (lab, v')
   noted_on s lab v v' told note = told_on s (lab, v) (lab, v') told (noted lab v v' note)
 
+  -- the same, or nothing
+  pub ended_on : (s : Option LabValue × V) (lab : Option LabValue) (v v' : V) → IsToldOfLab st t n s (lab, v) → (v' ≡ v) ⊎ n v Prints v' → IsToldOfLab st t n s (lab, v')
+  ended_on s lab v v' told (inl same) = subst (λ (w : V). IsToldOfLab st t n s (lab, w)) (sym same) told
+  ended_on s lab v v' told (inr note) = noted_on s lab v v' told note
+
   pub counted_on : (s : Option LabValue × V) (lab : Option LabValue) (v v' : V) (phases : ℕ) (last : Option ℕ) → IsToldOfLab st t n s (lab, v) → n v (CountsPhases phases last) v'
       → IsToldOfLab st t n s (lab, v')
   counted_on s lab v v' phases last told note = told_on s (lab, v) (lab, v') told (Counts phases last ∷ [], ((lab, v'), (refl, note), refl))
@@ -322,6 +327,15 @@ given_ok (Err e) p = tt
 pub given_err : {X E P : Type 0} (r : Result X E) → P → OnErr r P
 given_err (Ok x) p = tt
 given_err (Err e) p = p
+
+-- what follows from what holds of it
+pub ok_then : {X E P Q : Type 0} (r : Result X E) → (P → Q) → OnOk r P → OnOk r Q
+ok_then (Ok x) f p = f p
+ok_then (Err e) f p = tt
+
+pub err_then : {X E P Q : Type 0} (r : Result X E) → (P → Q) → OnErr r P → OnErr r Q
+err_then (Ok x) f p = tt
+err_then (Err e) f p = f p
 
 -- what holds of a result that is there
 pub on_ok : {X E P : Type 0} (r : Result X E) (x : X) → r ≡ Ok x → OnOk r P → P

@@ -30,7 +30,7 @@ impl Context {
         }
     }
 
-    /// The next router has that name, or none if it is empty; `NameTwice` if an earlier one has it.
+    /// Gives the next router that name, or no name if it is empty. `NameTwice` if an earlier router has it.
     pub fn name_next(&mut self, alloc: Global, name: &str) -> Result<(), Stop> {
         if self.router(name).is_ok() {
             return Err(Stop::Refused(Refusal::NameTwice));
@@ -47,7 +47,7 @@ impl Context {
         router.ok_or(Wrong::NoName)
     }
 
-    /// NOW: milliseconds, or `+` and how many there are since the last time.
+    /// NOW: milliseconds, or `+` and the milliseconds since the last time.
     pub fn moment(&self, word: &str) -> Result<Moment, Wrong> {
         let Some(gap) = word.strip_prefix('+') else {
             return Moment::new(number(word)?).ok_or(Wrong::Differs);
@@ -84,7 +84,7 @@ pub fn up_to<N: FromStr<Err: Drop> + Ord + Default + Copy>(word: &str, max: N) -
     count.ok_or(Wrong::Differs)
 }
 
-/// The moment so many gaps later, if there is one.
+/// The moment `gaps` gaps of `gap` milliseconds later, or `None` past the last moment.
 pub fn moment_after(now: Moment, gap: u64, gaps: u64) -> Option<Moment> {
     Moment::new(gap.checked_mul(gaps)?.checked_add(now.ms())?)
 }

@@ -259,7 +259,7 @@ impl Course {
         Ok(set_member(&mut self.outages.cut, usize::from(line.link), cut)?)
     }
 
-    /// An event at each interface on the link of a line, by router and interface; `NoSuchLink` if none is on it.
+    /// An event at each interface on the link of a line, by router and interface. `NoSuchLink` if the link has no interface.
     fn events_at(&self, kind: Step, line: &Line<'_>) -> Result<Vec<Event<'static>>, Stop> {
         let lab = self.site.running();
         let events: Vec<Event<'static>> = (0..lab.routers().saturating_mul(INTERFACE_LIMIT))
@@ -274,7 +274,7 @@ impl Course {
     }
 }
 
-/// There is one of that number among so many, if one is named; else the error.
+/// Fails with `error` if a `number` is given and is not below `count`.
 pub fn check_named(number: Option<usize>, count: usize, error: LabError) -> Outcome
     ensures { OnOk result (IfSome number (λ n. n < count)) }
 {

@@ -15,7 +15,7 @@ pub struct Expected {
     /// The number of the router.
     pub router: usize,
     pub prefix: Prefix,
-    /// The metric of the route to the prefix, 16 where it is unreachable; none where there is to be no route.
+    /// The metric of the route to the prefix, 16 if it is unreachable; `None` if no route is expected.
     pub metric: Option<u8>,
 }
 

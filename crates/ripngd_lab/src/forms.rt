@@ -1,4 +1,4 @@
-//! The forms of lines, as docs/SCRIPTS.md has them: the words of each, what a line of it does, and why a line has none of them.
+//! The forms of lines, as docs/SCRIPTS.md has them: the words of each, what a line of it does, and why a line matches no form.
 
 /// What a line does.
 #[derive(Clone, Copy, Debug, PartialEq, Eq)]
@@ -140,7 +140,7 @@ pub enum BadLine {
     SecondStart,
     /// It comes before the first router.
     NoRouter,
-    /// A row of prefixes goes on past the last one that there is.
+    /// A row of prefixes goes on past the last prefix of that length.
     PastLastPrefix,
 }
 
@@ -157,7 +157,7 @@ pub enum Wrong {
     NoName,
     /// It counts from the last time, and no line has named one.
     NoTime,
-    /// Its time is past the last one that there is.
+    /// Its time is past the last moment, 2^60 milliseconds.
     TooLate,
     /// It counts from the last datagram, and fewer were sent.
     NotSent,

@@ -14,13 +14,13 @@ use strsim::levenshtein;
 /// A first word is near another if at most this many letters differ.
 const NEAR: usize = 2;
 
-/// A longer word is near none.
+/// A word with more letters is near no other.
 const LONGEST: usize = 12;
 
 /// What a line should have been, or out of memory.
 type Hint = Result<String, AllocError>;
 
-/// What there is, if there is any, or out of memory.
+/// A value that may be missing, or out of memory.
 type Found<T> = Result<Option<T>, AllocError>;
 
 /// Runs a script as [`lab`](crate::lab) does. If a refused line ends it, `err` gets a line `ripngd: line L: ..` with a hint, if there
@@ -34,6 +34,16 @@ pub fn lab_hinted<W: Write, E: Write>(
     out: &mut W,
     err: &mut E,
 ) -> io::Result<bool> {
+    Ok(ended_at(alloc, script, out, err)?.is_none())
+}
+
+/// The same, and answers at which line the script ended, or `None` if every line was done.
+pub(crate) fn ended_at<W: Write, E: Write>(
+    alloc: Global,
+    script: &[u8],
+    out: &mut W,
+    err: &mut E,
+) -> io::Result<Option<usize>> {
     let names = names_of(alloc, script)?;
     let mut printer = Printer::new(alloc, Names::new(&names), out);
     let done = watched(alloc, script, &mut printer)?;
@@ -42,7 +52,7 @@ pub fn lab_hinted<W: Write, E: Write>(
     {
         let _ = writeln!(err, "ripngd: line {line}: {hint}");
     }
-    Ok(done)
+    Ok(if done { None } else { Some(printer.line) })
 }
 
 /// The hint for the refused line that ended a script, which says what to write, and the number of the line that is at fault, if there is
@@ -210,7 +220,8 @@ fn fault(alloc: Global, script: &[u8], cold: usize, refused: NetRefused) -> Foun
     Ok(None)
 }
 
-/// Why a network is refused, if it is: its routers and interfaces are of so many lines of the script, its prefixes of so many.
+/// Why the network is refused, if it is, where routers and interfaces are read from the first `listed` lines of the script and prefixes
+/// from the first `owned`.
 fn refusal_of(alloc: Global, script: &[u8], listed: usize, owned: usize) -> Found<NetRefused> {
     let mut context = Context::new(alloc);
     let mut nodes = Vec::new(alloc);

@@ -35,7 +35,7 @@ pub struct Advert {
     pub router: usize,
     /// The address of the interface that sent it.
     source: Addr6,
-    /// Its bytes; nothing comes if there are none.
+    /// Its bytes; if there are none, nothing is delivered.
     pub bytes: Vec<u8>,
 }
 
@@ -82,7 +82,7 @@ impl Advert {
     }
 }
 
-/// What a router with that table and horizon sends in place of a datagram: no bytes if it is nothing, and none of these if it is the same.
+/// What a router with that table and horizon sends in place of a datagram: empty if it sends nothing, `None` if the datagram stays.
 fn bytes_by<S: RouteStore>(
     alloc: Global,
     horizon: Horizon,

@@ -3,11 +3,13 @@
 
 mod context;
 mod course;
+mod exercise;
 mod expecting;
 mod forms;
 mod hints;
 mod horizon;
 mod line;
+mod marking;
 mod moving;
 mod plan;
 mod printer;
@@ -17,11 +19,13 @@ mod stop;
 use context::Context;
 use course::{Course, Site};
 pub use course::{Network, Routes};
+pub use exercise::{Role, Statement, Unlike, against};
 pub use expecting::{Expected, Fate, Obstacle, Way, meet};
 pub use forms::{BadLine, Wrong};
 pub use hints::{hint_of, lab_hinted};
 pub use horizon::Horizon;
 use line::Line;
+pub use marking::lab_marked;
 pub use moving::MadePhases;
 use plan::Outages;
 pub use plan::addr_at;

@@ -1,5 +1,5 @@
-//! What moves a network, with a report to the observer of the script: an event, a forged Response, waves of plans, rounds, and phases:
-//! stretches of a minute, by chance, in which all that matters gets through once, with no rounds.
+//! What moves a network, with a report to the observer of the script: an event, a forged Response, waves of plans, rounds, and phases.
+//! A phase is a minute of random events in which each router's regular update arrives once, without rounds.
 
 ghost use Rattle.std.specs.Prelude.{◌≡◌, IfErr, OnOk, Some};
 ghost use Rattle.ripngd_lab.specs.Common.{HealsIn, AllTakePart, AreMadeAndCounted, IsStopAt, StopsPhases, HasTold, value_of};
@@ -27,7 +27,7 @@ const PHASE_MS: u64 = 60_000;
 pub struct MadePhases {
     /// How many were made.
     pub phases: usize,
-    /// In which of them, numbered from 0, the table of some router last changed, but for how long a route lives on.
+    /// The last phase, numbered from 0, in which a table changed. Deadlines of routes are not compared.
     pub last: Option<usize>,
 }
 
@@ -39,7 +39,7 @@ impl fmt::Display for MadePhases {
 }
 
 impl Course {
-    /// An event happens, if it is not refused.
+    /// Makes an event happen, unless it is refused.
     pub fn step<V: Watch>(&mut self, event: &Event<'_>, watch: &mut V) -> Outcome
         ensures { HasTold result V.starts V.takes V.fails V.notes (Some (value_of self.old.site), watch.old) (Some (value_of self.new.site), watch.new) }
     {
@@ -92,8 +92,8 @@ impl Course {
         Ok(())
     }
 
-    /// Events of a wave happen, one after another. If they deliver a datagram of a router that is none of RIPng, its advert comes in
-    /// place of that.
+    /// Makes the events of a wave happen, one after another. If they deliver a datagram of a router without poisoned reverse (`horizon`),
+    /// its substitute advertisement `advert` is delivered instead.
     pub fn play<V: Watch>(
         &mut self,
         wave: &Wave<'_>,
@@ -110,8 +110,8 @@ impl Course {
         Ok(())
     }
 
-    /// An event happens; or an advert comes in its place as a forged Response, if it is not nothing. To the sender's own interfaces, which
-    /// believe none, comes the datagram.
+    /// Delivers an event, or in its place the substitute advertisement as a forged Response; an empty one delivers nothing. The sender's
+    /// own interfaces get the original datagram, since they would refuse a substitute.
     fn bring<V: Watch>(
         &mut self,
         advert: Option<&Advert>,
@@ -152,8 +152,8 @@ impl Course {
         Ok(())
     }
 
-    /// So many phases are made, one after another, by the chance of a generator that starts from a seed, and what they sent is passed by.
-    /// The observer is notified in which of them some table last changed. 28 of them leave each table with the least costs of now, and
+    /// Makes the line's number of phases, one after another, at random by a generator that starts from its seed. What they sent is passed
+    /// by. The observer is notified in which of them some table last changed. 28 of them leave each table with the least costs of now, and
     /// nothing else below 16 hops, whatever happened before. Nothing is done, but `LiedTo` refused after a forged Response, and `Outage`
     /// where a router is silent or a link is cut. The phases end where a router's regular update is not due in time, one is past the last
     /// moment, memory is out, or the observer fails; what was done stays done.
@@ -208,7 +208,7 @@ fn make_whole_rounds<V: Watch>(
     }
 }
 
-/// When so many phases are over of which the first begins at a moment, or the last moment that there is.
+/// When `phases` phases end of which the first begins at `begin`, at most the last moment.
 pub fn end_of_phases(begin: Moment, phases: usize) -> Option<Moment> {
     moment_after(begin, PHASE_MS, phases as u64).or(Moment::new(1 << 60))
 }

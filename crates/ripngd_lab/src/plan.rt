@@ -1,6 +1,6 @@
 //! What a line of many events makes happen: a wave of ticks, and then of deliveries. It is a plan: it says which events come
 //! next, where routers are silent, links are cut and datagrams are lost. Outages hold back what `round`, `rounds`, `tell` and `hear`
-//! would do, let no `phases` be, and hold back nothing that a line says of one datagram or of one router; what is lost comes to nobody.
+//! would do, and refuse `phases`. They hold back no event of one datagram or of one router. A lost datagram arrives nowhere.
 
 ghost use Rattle.std.specs.Prelude.{◌≡◌, false, true, IfOk, IsFalse, IsTrue, OnErr, OnOk, map};
 ghost use Rattle.ripngd_lab.specs.Common.{event_of, brings_lost, AllTakePart, addr_at, first_of, reaches, ticks_of, with_member};
@@ -47,7 +47,7 @@ impl Outages {
     }
 }
 
-/// What is of that number is among all of these from now on, or is not.
+/// Adds `member` to the set if `is_in`, or else removes it.
 pub fn set_member(members: &mut Vec<usize>, member: usize, is_in: bool) -> Result<(), AllocError>
     ensures { OnOk result (members.new.items ≡ with_member is_in member members.old.items) }
 {

@@ -32,7 +32,7 @@ pub enum Notice<'a> {
     Horizon { router: usize, horizon: Horizon },
     /// `lose`: the datagram of this number is lost.
     Lost(usize),
-    /// `rounds`: so many were made.
+    /// `rounds`: how many were made.
     Rounds(usize),
     /// `phases`: how many were made, and in which of them tables last changed.
     Phases(MadePhases),
@@ -78,7 +78,8 @@ pub trait Watch: ripng_world::Observer<Routes, Fault = io::Error> {
 pub struct Printer<'a, W: Write> {
     alloc: Global,
     names: Names<'a>,
-    line: usize,
+    /// The number of the line that is done, from 1.
+    pub line: usize,
     /// How a refused line has ended the script, if one has.
     pub ending: Option<Ending>,
     out: &'a mut W,
@@ -265,6 +266,7 @@ pub fn print_unmet<W: Write>(names: Names<'_>, unmet: &Unmet, out: &mut W) -> io
                 None => write!(out, "done"),
             }
         }
+        Unmet::End(name) => write!(out, "expected refused {} found end", name.word()),
     }
 }
 

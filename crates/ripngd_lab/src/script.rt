@@ -1,7 +1,7 @@
 //! A script, line by line: its routers are listed until they start, and then live in a network.
 
-ghost use Rattle.std.specs.Prelude.{◌≡◌, None, OnErr, OnOk, Option};
-ghost use Rattle.ripngd_lab.specs.Common.{LabValue, HasTold, IsToldOfLab, IsToldUntil, lab_in};
+ghost use Rattle.std.specs.Prelude.{◌≡◌, ◌⊎◌, None, OnErr, OnOk, Option};
+ghost use Rattle.ripngd_lab.specs.Common.{Broken, LabValue, HasTold, IsToldOfLab, IsToldUntil, Prints, lab_in};
 
 use crate::course::check_named;
 use crate::forms::Verb;
@@ -55,7 +55,7 @@ pub fn watched<V: Watch>(alloc: Global, script: &[u8], watch: &mut V) -> io::Res
             Err(Stop::Failed(error)) => return Err(error),
         }
     }
-    Ok(true)
+    session.end(watch)
 }
 
 /// The words of a line, without the blanks around them and without a remark; of `say` all but a carriage return at its end.
@@ -69,12 +69,12 @@ fn words_of(text: &str) -> &str {
     }
 }
 
-/// The same of bytes: nothing of what is no text.
+/// The same of bytes: no words if they are not UTF-8.
 pub fn words_in(line: &[u8]) -> &str {
     words_of(str::from_utf8(line).unwrap_or(""))
 }
 
-/// Does what a line says. If it is to be refused by a name, it is as it should be where it is.
+/// Does what a line says. A line that has to be refused by a name (`refused NAME`) is done exactly if it is refused by that name.
 fn run_line<V: Watch>(alloc: Global, session: &mut Session, line: &[u8], watch: &mut V) -> Outcome
     ensures { HasTold result V.starts V.takes V.fails V.notes (lab_in session.old.course, watch.old) (lab_in session.new.course, watch.new) }
 {
@@ -140,6 +140,18 @@ impl Session {
             sent,
             sent_by_line: sent.saturating_sub(self.context.sent),
         }
+    }
+
+    /// The script has no more lines, and answers whether that may be: no line is still to be refused.
+    fn end<V: Watch>(&self, watch: &mut V) -> io::Result<bool>
+        ensures noted { OnOk result ((watch.new ≡ watch.old) ⊎ V.notes watch.old Prints watch.new) }
+        ensures broken { OnErr result (V.notes watch.old Broken watch.new) }
+    {
+        let Some(name) = self.awaited else {
+            return Ok(true);
+        };
+        watch.noticed(Notice::Unmet(Unmet::End(name)))?;
+        Ok(false)
     }
 
     /// Does what the words of the next line say.

@@ -46,6 +46,8 @@ pub enum Unmet {
     },
     /// The line was to be refused by this name, and is done, or refused for another reason.
     Refusal(RefusalName, Option<Refusal>),
+    /// The next line was to be refused by this name, and there is none.
+    End(RefusalName),
 }
 
 /// Why a script ends before its last line.

@@ -162,7 +162,8 @@ fn routes_in(alloc: Global, table: &Routes) -> Result<Vec<(Prefix, Route)>, Allo
     Ok(routes)
 }
 
-/// Takes out of a known table the prefixes that a table has no route to. Says which, in order.
+/// Takes out of a known table the prefixes that a table has no route to. Says which, in order. Each prefix is known when it is looked
+/// at: the second test only helps the prover.
 fn forget_gone(alloc: Global, known: &mut Routes, table: &Routes) -> Result<Vec<Prefix>, AllocError>
     ensures listed { IfOk result (λ gone. known.new ≡ taken_out known.old gone.items) }
     ensures gone { OnOk result ((p : Prefix6) → map_of.get table.now p ≡ None → map_of.get known.new p ≡ None) }

@@ -25,7 +25,7 @@ pub struct StartRecord<'a> {
 #[derive(Drop)]
 pub struct RouterRecord {
     pub quiet: bool,
-    /// Each with the number of its link, which is none only where the network has no such interface.
+    /// Each with the number of its link, which is missing only where the network has no such interface.
     pub interfaces: Vec<(Interface, Option<u16>)>,
     /// Those that it owns, each with its tag.
     pub prefixes: Vec<(Prefix, u16)>,
@@ -75,7 +75,7 @@ pub struct Happened<'a, 'b> {
     pub event: &'a Event<'b>,
     /// Whether the outside host of the event forges a Response, which the router takes for a neighbor's.
     pub is_forged: bool,
-    /// The router from which it comes, if it is one, which is then none of RIPng.
+    /// The router without poisoned reverse (`horizon`) that it comes from, if one sent it.
     pub forger: Option<usize>,
     /// The datagram of a delivery, and the address of the interface that it was sent from.
     pub sender: Option<(&'a Sent, Option<Addr6>)>,
@@ -137,13 +137,13 @@ pub enum Action<'a> {
     },
     /// The datagram of this number is lost from now on.
     Loses(usize),
-    /// So many rounds were made.
+    /// This many rounds were made.
     GoesRound {
         rounds: usize,
         /// In which of them, numbered from 0, a forwarding table last changed, or a route was last deleted.
         last: Option<usize>,
     },
-    /// So many phases were made.
+    /// Phases were made.
     Makes(MadePhases),
     /// It is refused, or expects what is not so, and ends the script.
     Ends {
@@ -151,7 +151,7 @@ pub enum Action<'a> {
         how: &'static str,
         /// What stands after `line L refused ` where the script is run, or after `line L ` of what is not as expected.
         why: &'a str,
-        /// The hint that standard error has where the script is run, behind the number of the line that has the fault.
+        /// The hint that standard error has where the script is run, after the number of the line that has the fault.
         hint: Option<(usize, String)>,
     },
 }
@@ -209,7 +209,7 @@ impl<'a, 'b> Display for Happened<'a, 'b> {
 }
 
 impl<'a, 'b> Happened<'a, 'b> {
-    /// Writes the arrival of an outside host's datagram, of a forged Response, or of what a router sent that is none of RIPng.
+    /// Writes the arrival of an outside host's datagram, of a forged Response, or of what a router without poisoned reverse sent.
     fn write_stranger<W: Write>(&self, arrival: &Arrival<'_>, f: &mut Formatter<W>) -> fmt::Result {
         let Arrival { source, iface, .. } = arrival;
         if let Some(forger) = self.forger {
@@ -219,7 +219,10 @@ impl<'a, 'b> Happened<'a, 'b> {
             return write_message(arrival.bytes, f);
         }
         if self.is_forged {
-            return write!(f, "believes a lie of {source} on interface {iface}");
+            return write!(
+                f,
+                "receives a forged Response of {source} on interface {iface}"
+            );
         }
         write!(f, "hears the stranger {source} on interface {iface}")
     }

@@ -67,7 +67,7 @@ impl<'a> ToJson for AsideRecord<'a> {
     }
 }
 
-/// A hint, behind the number of the line that has the fault.
+/// A hint, after the number of the line that has the fault.
 impl ToJson for (usize, String) {
     ghost json = { json_of_hint };
 

@@ -1,7 +1,7 @@
-use Rattle.std.proofs.Common.{Option, None, false, true, ap}
+use Rattle.std.proofs.Common.{Option, None, false, true, ap, inr}
 use Rattle.ripng_world.specs.Labs.{LabValue}
 use Rattle.ripngd_lab.specs.ScriptWatching.{IsToldUntil, is_failure, lab_in}
-use Rattle.ripngd_lab.proofs.ScriptWatching.{given_err, line_ends, noted_on, on_fault, told_on, told_until, turned_on, untold}
+use Rattle.ripngd_lab.proofs.ScriptWatching.{ended_on, err_then, failed_still, given_err, line_ends, noted_on, ok_then, on_fault, told_on, told_until, turned_on, until_on, untold}
 use Rattle.ripngd_lab.proofs.script.watched.Goals as goal
 
 pub returns-in_err-lines-clause-told_until : goal.returns-in_err-lines-clause-told_until
@@ -60,3 +60,18 @@ returns-in-Err-Failed-clause-told_until g c = (
       (turned_on g.V.Watch.starts g.V.Observer.takes g.V.Observer.fails g.V.Watch.notes (None, c.args.watch.now) (lab_in c.loop-place.session.course) c.loop-place.watch c.at_line.new.self _ c.loop-place.invariant c.at_line.ensures)
       c.in-Err-Failed.ensures),
 )
+
+pub returns-clause-told : goal.returns-clause-told
+returns-clause-told g c =
+    ok_then c.end.result (λ noted. (
+      lab_in c.loop-place.session.course,
+      ended_on g.V.Watch.starts g.V.Observer.takes g.V.Observer.fails g.V.Watch.notes (None, c.args.watch.now) (lab_in c.loop-place.session.course) c.loop-place.watch c.end.new.watch c.loop-place.invariant noted,
+    )) c.end.ensures.noted
+
+pub returns-clause-told_until : goal.returns-clause-told_until
+returns-clause-told_until g c =
+    err_then c.end.result (λ broken. (
+      lab_in c.loop-place.session.course,
+      until_on g.V.Watch.starts g.V.Observer.takes g.V.Observer.fails g.V.Watch.notes (None, c.args.watch.now) (lab_in c.loop-place.session.course, c.loop-place.watch) (lab_in c.loop-place.session.course, c.end.new.watch) c.loop-place.invariant
+          (failed_still g.V.Watch.starts g.V.Observer.takes g.V.Observer.fails g.V.Watch.notes (lab_in c.loop-place.session.course) c.loop-place.watch c.end.new.watch (inr broken)),
+    )) c.end.ensures.broken
