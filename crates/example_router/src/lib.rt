@@ -70,6 +70,7 @@ pub fn run<W: Write>(alloc: Global, out: &mut W) -> io::Result<()> {
         to_group: true,
         bytes: &ADVERTISED,
     };
+    // Always true here. `arrive` requires an interface that the router has, and this test shows it to the prover.
     if arrival.iface < router.config().interfaces().len() {
         carry_out(out, &mut queue, now.ms(), router.arrive(arrival)?)?;
     }

@@ -1,7 +1,10 @@
-//! Rows of calls and what must come of them, played over both stores of routes: of stores, of a forwarding table and of one router.
+//! Rows of calls and what must come of them, played over both stores of routes: of stores, of a forwarding table, of one router, and
+//! of an engine over memory.
 //! README.md says how a file of them is written, and how the program is run.
 #![tactic(auto)]
 
+mod engines;
+mod memory;
 mod player;
 mod routers;
 mod row;

@@ -1,5 +1,6 @@
-//! A case is played: its commands are done one after another, and what comes out is written behind them.
+//! Plays a case: its commands are done one after another, and the output of each is written after it.
 
+use crate::engines::Engines;
 use crate::routers;
 use crate::row::{Done, Row};
 use crate::tables::Tables;
@@ -10,11 +11,12 @@ use router_core::Router;
 use std::alloc::AllocError;
 use std::str;
 
-/// What commands are about: tables, until a router has come up.
+/// What commands are about: tables and an engine, until a router has come up.
 #[derive(Drop)]
 struct Player<S: RouteStore> {
     tables: Tables<S>,
     router: Option<Router<S>>,
+    engines: Engines<S>,
 }
 
 impl<S: RouteStore> Player<S> {
@@ -30,6 +32,8 @@ impl<S: RouteStore> Player<S> {
                 example_router::run(row.alloc, &mut said).map_err(|_| AllocError)?;
                 write!(row.text, "{}", str::from_utf8(&said).unwrap_or("no text"))
             }
+            (None, "coming" | "nothing" | "clock" | "word" | "fail") => self.engines.prepare(row),
+            (None, "engine" | "turns" | "report" | "table") => self.engines.obey(row),
             (None, _) => self.tables.obey(row),
         }
     }
@@ -70,7 +74,7 @@ impl<S: RouteStore> Player<S> {
     }
 }
 
-/// How a case turns out over a store. A line that must come out asks for nothing, and a remark stands for itself.
+/// Plays a case over a store, and returns its output: commands and remarks are copied, expected lines are left out.
 pub fn played<S: RouteStore>(rt: &HostRuntime, case: &str) -> Result<String, AllocError> {
     let alloc = rt.alloc();
     let tables = Tables {
@@ -81,6 +85,7 @@ pub fn played<S: RouteStore>(rt: &HostRuntime, case: &str) -> Result<String, All
     let mut player: Player<S> = Player {
         tables,
         router: None,
+        engines: Engines::new(alloc),
     };
     let mut text = String::new(alloc);
     for line in case.lines() {

@@ -13,9 +13,9 @@ use router_core::{
 use std::alloc::AllocError;
 use std::time::Instant;
 
-/// A router comes up, if the configuration that words ask for is accepted; with `start` its answer is written. Its interfaces are fe80::1
-/// with an MTU of 1,280 and fe80::1:1 with 1,500; behind them stand `quiet` and `own PREFIX TAG`.
-pub fn come_up<S: RouteStore>(row: &mut Row<'_>) -> Result<Option<Router<S>>, AllocError> {
+/// The configuration that words ask for, if it is accepted; else the refusal is written. Its interfaces are fe80::1 with an MTU of 1,280
+/// and fe80::1:1 with 1,500; `quiet` and `own PREFIX TAG` may follow.
+pub fn asked_config(row: &mut Row<'_>) -> Result<Option<RouterConfig>, AllocError> {
     let interface = |host: u128, mtu| Interface {
         addr: Addr6::from_bits((0xfe80 << 112) + host),
         cost: 1,
@@ -33,11 +33,19 @@ pub fn come_up<S: RouteStore>(row: &mut Row<'_>) -> Result<Option<Router<S>>, Al
         }
     }
     match RouterConfig::check(interfaces, prefixes, is_quiet) {
-        Ok(config) => start(row, config).map(|router| Some(router)),
+        Ok(config) => Ok(Some(config)),
         Err(why) => {
             writeln!(row.text, "refused {why:?}")?;
             Ok(None)
         }
+    }
+}
+
+/// A router comes up, if its configuration is accepted. With `start` its answer is written.
+pub fn come_up<S: RouteStore>(row: &mut Row<'_>) -> Result<Option<Router<S>>, AllocError> {
+    match asked_config(row)? {
+        Some(config) => start(row, config).map(|router| Some(router)),
+        None => Ok(None),
     }
 }
 
@@ -51,7 +59,7 @@ fn start<S: RouteStore>(row: &mut Row<'_>, config: RouterConfig) -> Result<Route
     Ok(router)
 }
 
-/// A datagram arrives. If an entry was skipped for want of memory, it comes once more, and what was answered first is written.
+/// A datagram arrives. If an entry was skipped because memory was refused, it arrives once more, and the first answer is written.
 fn hear<S: RouteStore>(
     row: &mut Row<'_>,
     router: &mut Router<S>,
@@ -84,7 +92,7 @@ fn tick<S: RouteStore>(row: &mut Row<'_>, router: &mut Router<S>) -> Result<Answ
     Ok(answer)
 }
 
-/// Whether a change is of no interface, or of one that there is.
+/// Whether a change names no interface, or one that the router has.
 fn is_named(config: &RouterConfig, change: &Change) -> bool
     ensures { result ≡ true → NamesInterface config.now change.now }
 {

@@ -10,7 +10,7 @@ use std::{io, mem};
 
 pub type Done = Result<(), AllocError>;
 
-/// Whoever reads words goes on behind one that is not as it should be, and asks once at the end.
+/// The words of a command. A reader continues past a bad word; whether there was one is checked once, at the end.
 #[derive(Drop)]
 pub struct Row<'a> {
     pub rt: HostRuntime,
@@ -52,19 +52,19 @@ impl<'a> Row<'a> {
         row
     }
 
-    /// Whether the command was as it should be, and read to its end.
+    /// Whether no word of the command was bad, and it was read to its end.
     pub fn is_read(&self) -> bool {
         !self.is_bad && self.rest.is_empty()
     }
 
-    /// The next word, or none behind the last.
+    /// The next word, or an empty one after the last.
     pub fn next(&mut self) -> &'a str {
         let (word, rest) = self.rest.split_once(' ').unwrap_or((self.rest, ""));
         self.rest = rest;
         word
     }
 
-    /// What the next word says, or else another, and the command is not as it should be.
+    /// The value of the next word. If it has none, the command is marked as bad, and the result is `other`.
     pub fn read<T: FromStr + Drop>(&mut self, other: T) -> T
     where
         T::Err: Drop,
@@ -140,7 +140,7 @@ impl<'a> Row<'a> {
     }
 }
 
-/// The moment of so many milliseconds, or of none if there is no such.
+/// The moment of that many milliseconds, or 0 past the last moment.
 pub fn moment(ms: u64) -> Moment {
     Moment::new(ms).unwrap_or(Moment::new(0).unwrap())
 }

@@ -26,7 +26,7 @@ fn live(until: u32) -> Route {
     Route::live(2, 7, origin, moment(0).later(until))
 }
 
-/// The route that `own TAG`, `live UNTIL` or `lost UNTIL` says, with a mark if `changed` stands behind it.
+/// The route that `own TAG`, `live UNTIL` or `lost UNTIL` says, with a mark if `changed` follows.
 fn read_route(row: &mut Row<'_>) -> Route {
     let route = match row.next() {
         "own" => Route::own(row.read(0)),
@@ -59,7 +59,7 @@ fn found_in(fib: &Fib) -> u64 {
 }
 
 impl<S: RouteStore> Tables<S> {
-    /// Adds a route to a prefix that has none, or changes one that there is.
+    /// Adds a route to a prefix that has none, or changes the one it has.
     fn change(&mut self, row: &mut Row<'_>) -> Done {
         let (prefix, store) = (row.prefix(), &mut self.store);
         match (row.call, store.get(&prefix).is_some()) {

@@ -6,17 +6,22 @@ use prefix6::Prefix;
 use route_table::{Clock, Deadline, Origin, Route, RouteStore};
 use router_core::{Answer, Destination, Outgoing, Router};
 
-/// A datagram that is sent: the interface, to whom, and its bytes, four a word, as RFC 2080 draws a datagram.
-fn write_send(out: &mut String, send: &Outgoing) -> Done {
+/// Bytes behind a space, four a word, as RFC 2080 draws a datagram.
+pub fn write_bytes(out: &mut String, bytes: &[u8]) -> Done {
+    for (place, byte) in bytes.iter().enumerate() {
+        let space = if place % 4 == 0 { " " } else { "" };
+        write!(out, "{space}{byte:02x}")?;
+    }
+    Ok(())
+}
+
+/// A datagram that is sent: the interface, to whom, and its bytes. The line has no end yet.
+pub fn write_send(out: &mut String, send: &Outgoing) -> Done {
     match send.to {
         Destination::Group => write!(out, "send {} group", send.iface)?,
         Destination::Peer { addr, port } => write!(out, "send {} peer {addr} {port}", send.iface)?,
     }
-    for (place, byte) in send.bytes.as_slice().iter().enumerate() {
-        let space = if place % 4 == 0 { " " } else { "" };
-        write!(out, "{space}{byte:02x}")?;
-    }
-    writeln!(out)
+    write_bytes(out, send.bytes.as_slice())
 }
 
 pub fn write_hop(out: &mut String, hop: Hop) -> Done {
@@ -104,6 +109,7 @@ pub fn write_answer(out: &mut String, answer: &Answer) -> Done {
     }
     for send in answer.sends.as_slice() {
         write_send(out, send)?;
+        writeln!(out)?;
     }
     for change in answer.changes.as_slice() {
         write_change(out, change)?;
