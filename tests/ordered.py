@@ -1,30 +1,18 @@
 """Routers to whom the system answers as is ordered (tests/system.c): a clock of the test's own, and calls that fail; each call is noted."""
 
-import atexit
 import pathlib
-import shutil
-import subprocess
-import tempfile
-import threading
 
 from daemons import Router
-from suite import Failed, same
+from preloaded import compiled
+from suite import same
 
-COMPILED = pathlib.Path(tempfile.mkdtemp(prefix="ripngd-system-"), "system.so")
-LOCK = threading.Lock()
-atexit.register(shutil.rmtree, COMPILED.parent, ignore_errors=True)
+SOURCE = pathlib.Path(__file__).with_name("system.c")
 
 
 def environment(folder, name, **orders):
     """What orders the system's answers to a program, as tests/system.c has them; its calls stand in NAME.calls."""
-    if not shutil.which("cc"):
-        raise Failed("there is no compiler of C, cc")
-    with LOCK:
-        if not COMPILED.exists():
-            source = pathlib.Path(__file__).with_name("system.c")
-            subprocess.run(["cc", "-O1", "-shared", "-fPIC", "-o", COMPILED, source], check=True)
     return dict({f"SYSTEM_{order.upper()}": str(value) for order, value in orders.items()},
-                LD_PRELOAD=str(COMPILED), SYSTEM_LOG=f"{folder}/{name}.calls")
+                LD_PRELOAD=compiled(SOURCE), SYSTEM_LOG=f"{folder}/{name}.calls")
 
 
 def calls(case, name, called):

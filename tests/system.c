@@ -15,7 +15,6 @@
 #define _GNU_SOURCE
 #include <errno.h>
 #include <fcntl.h>
-#include <netinet/in.h>
 #include <stdarg.h>
 #include <stdio.h>
 #include <stdlib.h>
@@ -25,6 +24,8 @@
 #include <sys/syscall.h>
 #include <time.h>
 #include <unistd.h>
+
+#include "ports.h"
 
 enum call { BIND, ACCEPT, SENDTO, RECVFROM, WAIT, SLEEP, CLOCK, WRITE1, WRITE2, WRITE3, RECV, SEND, LIST, LISTED, CALLS };
 static const char *const names[CALLS] = {
@@ -71,18 +72,6 @@ static int fails(enum call call)
         if (number >= first && number < first + count) return errno = error, 1;
     }
     return 0;
-}
-
-static int port_of(const void *address) { return ntohs(((const struct sockaddr_in *)address)->sin_port); }
-
-static int port_at(int fd)
-{
-    struct sockaddr_in address = {0};
-    socklen_t length = sizeof address;
-    int error = errno;
-    syscall(SYS_getsockname, fd, &address, &length);
-    errno = error;
-    return port_of(&address);
 }
 
 int bind(int fd, const struct sockaddr *address, socklen_t length)
