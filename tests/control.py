@@ -323,6 +323,18 @@ def what_is_no_command_is_refused(case):
 
 
 @listed
+def a_command_is_obeyed_whatever_the_length_of_its_words(case):
+    """Of addresses of 20 to 38 characters, in the commands that have one."""
+    router = alone(case)
+    for more in range(0, 19, 3):
+        digits = [min(4, 1 + max(0, more - 3 * place)) for place in range(6)]
+        addr = ":".join(["2001", "db8", *["1" * count for count in digits]])
+        for line, answer in ((f"gain {addr}/128 65535", ""), (f"lookup {addr}", f"{addr}/128 metric 1 direct\n"), (f"drop {addr}/128", ""),
+                             (f"peer 0 {addr} 40000", ""), (f"unpeer 0 {addr}", "")):
+            same(f"the answer to {line}", router.client().say(f"{line}\n".encode()).all(), f"{answer}ok\n")
+
+
+@listed
 def a_line_has_1024_bytes_at_most(case):
     """Its line feed is among them. More are refused before it comes."""
     router = alone(case)

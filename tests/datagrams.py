@@ -6,6 +6,9 @@ import time
 REQUEST = bytes([1, 1, 0, 0] + [0] * 19 + [16])
 """A Request for the whole table."""
 
+MOST = 3_275
+"""How many entries the longest datagram of UDP over IPv4 brings: (65,507 - 4) / 20."""
+
 
 def entry(prefix, metric, tag=0):
     """A route table entry: a prefix, the tag, the length, the metric."""
@@ -15,6 +18,10 @@ def entry(prefix, metric, tag=0):
 
 def response(*entries):
     return bytes([2, 1, 0, 0]) + b"".join(entries)
+
+
+def request(*entries):
+    return bytes([1, 1, 0, 0]) + b"".join(entries)
 
 
 def table(second, count):

@@ -1,6 +1,6 @@
 #!/usr/bin/env python3
-"""The module in docs/lab.html beside the native program: traces of all examples and lessons and of 300 scripts made by chance, byte for byte,
-by node and in each browser that is there.
+"""The module in docs/lab.html beside the native program: traces of all examples and lessons, of a long script, and of 300 scripts made by
+chance, byte for byte, by node and in each browser that is there.
 
     tests/lab_file.py PROGRAM [NAME..]      all cases, or those that have NAME in theirs
 """
@@ -68,7 +68,9 @@ def random_script(seed):
 def all_scripts():
     """The scripts by their names."""
     files = sorted((ROOT / "examples").rglob("*.lab"))
-    return {**{file.stem: file.read_bytes() for file in files}, **{f"random {seed}": random_script(seed) for seed in range(SCRIPTS)}}
+    found = {file.stem: file.read_bytes() for file in files}
+    found["line and remarks"] = found["line"] + 20_000 * b"# a remark\n"
+    return {**found, **{f"random {seed}": random_script(seed) for seed in range(SCRIPTS)}}
 
 
 def traced(program):

@@ -100,6 +100,15 @@ def full_store():
             f"> add {other} own 1", *length, f"> get {other}", f"{other} metric 1 tag 1 own"]
 
 
+def each_length():
+    """Each holds all those after it. They are added from the longest on."""
+    prefixes = [text((0x2001_0db8_abcd_ef01_2345_6789_abcd_ef01 >> 128 - length) << 128 - length, length) for length in range(129)]
+    lines = []
+    for length in reversed(range(129)):
+        lines += [f"> get {prefixes[length]}", "no route", f"> add {prefixes[length]} own {length}"]
+    return [*lines, "> length", "129, empty false", "> list", *(f"{prefix} metric 1 tag {tag} own" for tag, prefix in enumerate(prefixes))]
+
+
 CASES = {
     "a table of 4096 routes has room": lambda: [
         "> router", *learn(range(4096)), "> size", "4096",
@@ -128,6 +137,7 @@ CASES = {
     "a full datagram has no empty one behind it": lambda: owned_are_told("tick 0 0", 61, 1),
     "what a shutdown tells is cut by the mtu": lambda: owned_are_told("shutdown 0", 62, 16),
     "a full table refuses until a route is removed": full_store,
+    "a prefix of each length has its route": each_length,
     "a store answers random commands as a model does": lambda: RandomCommands(20_000).lines,
 }
 

@@ -13,11 +13,13 @@ from errno import EINTR, EPERM
 
 sys.dont_write_bytecode = True
 from daemons import interface, listed, main, peer, prefix
-from datagrams import REQUEST, entry, response
+from datagrams import MOST, REQUEST, entry, request, response
 from ordered import Ordered
 from suite import same
 
 OWN = "2001:db8::/32"
+ROUTES = [f"2001:db8:{number:x}::/48" for number in range(1, MOST + 1)]
+"""As many routes as a datagram brings."""
 MANY = "".join(prefix(f"2001:db8:{number:x}::/48") for number in range(1_024))
 """More prefixes than go into 16 datagrams of 1,280 bytes, which have 61 entries each: 17 tell them."""
 ASKED = 4
@@ -29,6 +31,11 @@ STAMPED = 35
 """The option SO_TIMESTAMPNS of sockets, which Python has no name for."""
 FAULTY = response(entry(OWN, 17))
 """A Response of which nothing is learned."""
+
+
+def responses(entries):
+    """The Responses that tell entries, where an MTU of 1,280 bytes has room for 61."""
+    return [response(*entries[first:first + 61]) for first in range(0, len(entries), 61)]
 
 
 # What is sent, and to whom.
@@ -74,6 +81,52 @@ def what_goes_to_the_group_goes_to_each_peer_and_an_answer_to_one(case):
     router.done()
     told = response(entry(OWN, 1))
     same("what each got", (first.rest(), second.rest()), ([REQUEST, told], [REQUEST, told, told]))
+
+
+@listed
+def each_of_many_peers_is_told_and_heard(case):
+    """One more than the datagrams that may go at once. The last asks from a port other than 521."""
+    crowd, port = [case.neighbor() for _ in range(65)], case.port()
+    peers = [peer(f"1:{number:x}", one.port, port=2_000) for number, one in enumerate(crowd)]
+    router = Ordered(case, "crowd", interface(1, port, *peers) + prefix(OWN), "--turns", "1", clock=0)
+    crowd[-1].send(port, REQUEST)
+    router.done()
+    told = response(entry(OWN, 1))
+    came = [one.rest() for one in crowd]
+    same("what the last got", came[-1], [REQUEST, told, told])
+    same("how many of the others got another thing", sum(got != [REQUEST, told] for got in came[:-1]), 0)
+
+
+@listed
+def a_large_table_is_told_on_each_of_sixteen_interfaces(case):
+    """To the neighbor of which it was learned with poison."""
+    neighbors, ports = [case.neighbor() for _ in range(16)], [case.port() for _ in range(16)]
+    text = "".join(interface(f"a:{number:x}", port, peer(f"b:{number:x}", neighbor.port))
+                   for number, (port, neighbor) in enumerate(zip(ports, neighbors)))
+    router = Ordered(case, "wide", text, "--turns", "1", clock=0)
+    neighbors[0].send(ports[0], response(*[entry(route, 1) for route in ROUTES]))
+    router.done()
+    for number, neighbor in enumerate(neighbors):
+        whole = [REQUEST, *responses([entry(route, 2 if number else 16) for route in ROUTES])]
+        same(f"whether interface {number} tells the whole table", neighbor.rest() == whole, True)
+
+
+@listed
+def a_request_is_answered_whatever_its_length(case):
+    """Of as many entries as an answer has room for in one datagram, of one more, and so on to the longest that UDP carries. The router
+    has a route to the first prefix alone."""
+    asker, port = case.neighbor(), case.port()
+    text = interface(1, port, peer(2, asker.port, port=2_000)) + prefix(ROUTES[0], tag=9)
+    counts = (61, 62, 99, 100, 1_000, MOST)
+    router = Ordered(case, "asked", text, "-q", "--turns", f"{len(counts)}", clock=0)
+    for count in counts:
+        asker.send(port, request(*[entry(route, 1) for route in ROUTES[:count]]))
+    router.done()
+    whole = [entry(ROUTES[0], 1, 9), *[entry(route, 16) for route in ROUTES[1:]]]
+    answers = [datagram for count in counts for datagram in responses(whole[:count])]
+    came = asker.rest()
+    same("how many datagrams came", len(came), len(answers))
+    same("whether they are the answers", came == answers, True)
 
 
 @listed

@@ -16,7 +16,7 @@ from errno import EACCES, EADDRINUSE, EINTR, EIO, EMFILE, ENOMEM
 
 sys.dont_write_bytecode = True
 from daemons import interface, listed, main, Neighbor, peer, prefix, until
-from datagrams import REQUEST, entry, response
+from datagrams import MOST, REQUEST, entry, response, waiting_at
 from ordered import Ordered, calls, environment
 from suite import same
 
@@ -24,6 +24,7 @@ WATCHED = float(os.environ.get("WATCHED", 4))
 OWN = "2001:db8::/32"
 FAULTY = response(entry(OWN, 17))
 """A Response of which nothing is learned, and something is said."""
+DAY_MS = 86_400_000
 
 
 def refused(router):
@@ -166,6 +167,42 @@ def a_stranger_is_dropped_and_does_not_end_the_wait(case):
 
 
 @listed
+def nothing_is_heard_at_another_address_of_this_machine(case):
+    ports, neighbors, text = interfaces(case, (2, 3), (4, 5))
+    router = Ordered(case, "elsewhere", text, "-q", "-d", "--turns", "1", clock=0)
+    neighbors[2].socket.sendto(FAULTY, ("127.0.0.2", ports[0]))
+    router.done()
+    same("who was heard", refused(router), [])
+
+
+@listed
+def all_that_is_ready_at_once_is_heard(case):
+    """Each socket, and a client, which was there first."""
+    ports, neighbors, text = interfaces(case, (2, 3), (4, 5))
+    router = Ordered(case, "ready", text, "-q", "-d", "--control", "ready.sock", "--turns", "3", clock=0)
+    client = router.client()
+    neighbors[2].send(ports[0], FAULTY)
+    neighbors[4].send(ports[1], FAULTY)
+    router.done()
+    same("who was heard", refused(router), [(0, "2"), (1, "4")])
+    client.close()
+
+
+@listed
+def a_datagram_of_any_size_is_heard(case):
+    """Responses without an entry, of fifty more in each than in the one before, and of as many as a datagram brings."""
+    neighbor, port = case.neighbor(), case.port()
+    router = case.listening("sizes", interface(1, port, peer(2, neighbor.port)), "-q")
+    counts = [*range(0, MOST, 50), MOST]
+    for count in counts:
+        while waiting_at(port)[0] > 65_536:
+            time.sleep(0.001)
+        neighbor.send(port, response(*[entry(OWN, 1)] * count))
+    heard = f"iface 0 from fe80::2 arrivals {len(counts)} responses {len(counts)} entries {sum(counts)} last "
+    until("all heard", lambda: router.ctl("neighbors").out.startswith(heard), 10)
+
+
+@listed
 def a_read_that_is_interrupted_comes_again(case):
     ports, neighbors, text = interfaces(case, (2,))
     router = Ordered(case, "interrupted", text, "-q", "-d", "--turns", "1", clock=0, fail=f"recvfrom:1:1:{EINTR}")
@@ -301,6 +338,17 @@ def a_clock_that_cannot_be_read_tells_its_last_moment(case):
         neighbor.send(port, FAULTY, 3)
         router.done()
         same("the moments", {line.split()[0] for line in router.said().splitlines()[:3]}, {str(told)})
+
+
+@listed
+def a_clock_goes_on_for_days(case):
+    """Each reading is ten seconds behind the one before, so a turn takes more than half a minute, and most have an update."""
+    port = case.port()
+    router = Ordered(case, "days", interface(1, port, peer(2, case.port())) + prefix(OWN), "--turns", "6000", clock=10_000).done()
+    updates = sorted(router.sends(port))
+    longest = max(later - earlier for earlier, later in zip(updates, updates[1:]))
+    same(f"whether {updates[-1]} is past two days", updates[-1] > 2 * DAY_MS, True)
+    same(f"whether the longest time between updates, {longest} ms, is at most two minutes", longest <= 120_000, True)
 
 
 if __name__ == "__main__":

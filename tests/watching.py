@@ -14,7 +14,7 @@ from errno import ENOSPC
 
 sys.dont_write_bytecode = True
 from daemons import interface, listed, main, peer, prefix, SECONDS, until
-from datagrams import REQUEST, entry, feed, response, table
+from datagrams import MOST, REQUEST, entry, feed, response, table
 from ordered import Ordered
 from suite import Failed, same
 
@@ -82,6 +82,8 @@ def a_route_more_than_a_table_holds_is_noted(case):
     until("noted", lambda: "noted" in router.said())
     same("what is said", re.sub(r"^\d+", "T", router.said()), "T iface 0 from fe80::2 port 521 entry 0 noted 23 TableFull\n")
     same("the last line of its counts", router.ctl("counts").out.splitlines()[1], "noted 23 TableFull 1")
+    same("the answer to link down", router.ctl("link", "down", "0"), (0, "", ""))
+    same("the table without what was learned there", router.ctl("table").out, "")
 
 
 @listed
@@ -197,6 +199,21 @@ def each_of_many_changes_has_its_line(case):
     lines = [f"2001:db8:{number:x}::/48".replace(":0::", "::") + " metric 2 via fe80::2 iface 0\n" for number in range(70)]
     same("the table", router.done().out(), "".join(lines))
     same("the log", router.log(), "".join(f"add {line}" for line in lines))
+
+
+@listed
+def thousands_of_routes_come_and_go_at_once(case):
+    """A neighbor tells them in the two longest datagrams and nothing more, so each is lost behind 180 seconds."""
+    neighbor, port = case.neighbor(), case.port()
+    router = Ordered(case, "gone", interface(1, port, peer(2, neighbor.port)), "-q", "-R", "gone.log", "--seconds", "200", clock=0)
+    routes = [f"2001:db8:{number:x}::/48" for number in range(1, 2 * MOST + 1)]
+    for some in (routes[:MOST], routes[MOST:]):
+        neighbor.send(port, response(*[entry(route, 1) for route in some]))
+    same("the table", router.done().out(), "")
+    wanted = [f"add {route} metric 2 via fe80::2 iface 0" for route in routes] + [f"del {route}" for route in routes]
+    log = router.log().splitlines()
+    same("how many changes there were", len(log), len(wanted))
+    same("whether they are those of all routes", log == wanted, True)
 
 
 @listed
