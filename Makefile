@@ -1,20 +1,21 @@
 # make              leaves the program at bin/ripngd, in some minutes. It is not proved, and says so
 # make prove        proves it and builds it, and puts it in the place of the other; with CRATE=, proves that crate, all that stand on it, and what those need
-# make test         the merge gate: every proof, the edits that must fail, all tests of the proved program
+# make test         the merge gate: every proof, the edits that must fail, all tests of the proved program, the mutants of what changed.
+#                   Where nothing fails the program is left in the place of the other
 # make check        all tests of the program that stands at bin/ripngd, proved or not
 # make lab SCRIPT=  runs a network of routers from a script
 # make show HEX=    decodes one datagram, given as hexadecimal digits
 # make page         makes docs/lab.html, the laboratory in one file, with a module of proved libraries (needs Debian's binaryen)
 # make film SCRIPT= the same with a script in it, at OUT; film.html if none is named
-# make install      puts the proved program, its companion for real links, their manual pages, a unit of systemd for each, and the
-#                   examples below PREFIX (and DESTDIR before it); with UNPROVED=1 a program that is not proved, too
+# make install      puts the proved program of these sources and its mark, its companion for real links, their manual pages, a unit of
+#                   systemd for each, and the examples below PREFIX (and DESTDIR before it); with UNPROVED=1 any program, as not proved
 # make uninstall    takes them away again
 # make dist         what is installed, and checksums, in one file below dist
 # make deb          the same as a Debian package below dist (needs dpkg-deb)
 # make bench        times of a router and its forwarding table, as tables grow
 # make beside       what a route costs here and in BIRD, one after the other (needs root and BIRD, a package of the system)
 # make pictures     pictures of the examples, below docs (needs Chromium, a package of the system)
-# make mutants      wrong programs that no contract sees: which test catches each (an hour)
+# make mutants      wrong programs that no contract sees: which test catches each (half an hour)
 # make clean        forgets what earlier runs built here
 
 HEX ?= 02010000
@@ -47,7 +48,7 @@ name = ripngd-$(VERSION)$(if $(UNPROVED),-unproved)-x86_64-linux
 all: bin/ripngd
 
 # Where this kit compiles nothing without its proof (status 3), it is proved.
-bin/ripngd: crates.txt $(shell find crates -path '*/src/*.rt' ! -path 'crates/test_*')
+bin/ripngd: crates.txt $(shell find crates \( -path '*/src/*.rt' -o -path '*/specs/*.antt' \) ! -path 'crates/test_*')
 	@if tools/unproved.sh crates/ripngd_program $@; then echo 'bin/ripngd is not proved: `make prove` proves it' >&2; \
 	elif [ $$? = 3 ]; then echo 'so it is proved now, which takes half an hour' >&2; tools/prove.sh ripngd_program $@; else exit 2; fi
 
@@ -75,13 +76,13 @@ page:
 film:
 	page/film.py $(SCRIPT) > $(OUT)
 
-# What is installed is proved, but where UNPROVED says otherwise.
+# What is installed is proved, of the sources as they stand, but where UNPROVED says otherwise.
 proved:
-	@if [ ! -x $(PROGRAM) ] || { [ -z '$(UNPROVED)' ] && $(PROGRAM) --version | grep -q unproved; }; then \
-	echo '$(PROGRAM) is not there, or not proved: `make prove` first, or `make` and UNPROVED=1' >&2; exit 1; fi
+	@$(if $(UNPROVED),test -x,tools/proved.py check) $(PROGRAM) || { echo '`make prove` first, or `make` and UNPROVED=1' >&2; exit 1; }
 
-# Units start no unproved program, but where one is installed.
-for_units = -e 's|@bindir@|$(bindir)|' -e 's|@unproved@|$(if $(UNPROVED), --unproved)|' $(if $(UNPROVED),-e '/grep unproved/d')
+# Units start the program with the mark that stands beside the companion, or any where UNPROVED says so.
+for_units = -e 's|@bindir@|$(bindir)|' -e 's|@linksdir@|$(linksdir)|' -e 's|@unproved@|$(if $(UNPROVED), --unproved)|' \
+	$(if $(UNPROVED),-e '/^ExecCondition=/d')
 
 # Pages keep their places to one another, so that what one says of another is found. The companion's modules stand beside it, and
 # `bindir` has a link to it.
@@ -89,11 +90,14 @@ install: proved
 	$(INSTALL) -d $(DESTDIR)$(bindir) $(DESTDIR)$(mandir)/man8 $(DESTDIR)$(unitdir) $(DESTDIR)$(linksdir)
 	$(INSTALL) -d $(addprefix $(DESTDIR)$(docdir)/,$(folders) links)
 	$(INSTALL) -m 755 $(PROGRAM) $(DESTDIR)$(bindir)/ripngd
+	rm -f $(DESTDIR)$(linksdir)/ripngd.proved
+	$(if $(UNPROVED),,$(INSTALL) -m 644 $(PROGRAM).proved $(DESTDIR)$(linksdir)/ripngd.proved)
 	$(INSTALL) -m 644 links/*.py $(DESTDIR)$(linksdir)
 	$(INSTALL) -m 755 links/ripngd-links $(DESTDIR)$(linksdir)
 	ln -sfr $(DESTDIR)$(linksdir)/ripngd-links $(DESTDIR)$(bindir)/ripngd-links
 	$(INSTALL) -m 644 docs/ripngd.8 docs/ripngd-links.8 $(DESTDIR)$(mandir)/man8
 	$(INSTALL) -m 644 README.md $(DESTDIR)$(docdir)
+	$(if $(UNPROVED),,ln -sfr $(DESTDIR)$(linksdir)/ripngd.proved $(DESTDIR)$(docdir))
 	$(INSTALL) -m 755 links/bird.* $(DESTDIR)$(docdir)/links
 	for folder in $(folders); do $(INSTALL) -m 644 $$folder/*.* $(DESTDIR)$(docdir)/$$folder || exit; done
 	for unit in ripngd@ ripngd-links@; do sed $(for_units) docs/$$unit.service > $(DESTDIR)$(unitdir)/$$unit.service || exit; done

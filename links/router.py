@@ -1,7 +1,10 @@
 """The router: its configuration, its process, and what it is asked and told at its control socket."""
 
 import asyncio
+import hashlib
 import os
+import pathlib
+import shutil
 import subprocess
 import sys
 
@@ -10,6 +13,8 @@ from table import Fault
 
 # Seconds that an answer may take, and the end of the process.
 PATIENCE, ENDS = 10, 5
+# The mark of the proved program that was installed with this companion: `make install` puts it here.
+MARK = pathlib.Path(__file__).resolve().parent / "ripngd.proved"
 
 
 def configuration(interfaces, owned):
@@ -23,13 +28,15 @@ def configuration(interfaces, owned):
 
 
 def refuse_unproved(program):
-    """Refuses a router whose version says that it is not proved."""
+    """Refuses a router that is not the proved one that was installed with this companion."""
     try:
-        said = subprocess.run([program, "--version"], capture_output=True, text=True, preexec_fn=leave, check=False).stdout
+        with open(shutil.which(program) or program, "rb") as file:
+            found = hashlib.file_digest(file, "sha256").hexdigest()
+        mark = MARK.read_text() if MARK.exists() else ""
     except OSError as fault:
-        raise Fault(f"cannot start {program}: {fault.strerror}") from None
-    if "unproved" in said:
-        raise Fault(f"{program} is not proved, and is taken only with --unproved")
+        raise Fault(f"cannot read {fault.filename}: {fault.strerror}") from None
+    if f"program {found}" not in mark.splitlines():
+        raise Fault(f"{program} is not the proved program of this ripngd-links, and is taken only with --unproved")
 
 
 def say(text):

@@ -5,8 +5,9 @@
 #     tools/prove.sh --libraries CRATE FOLDER      a library: it, and those below it, stay in the new folder FOLDER with what `rt ci` made of them
 #     tools/prove.sh --above CRATE                 all that stand on a crate, and what those need: nothing stays
 #
-# `rt ci` runs over a copy of these crates, without the edits that must fail. The exit status is 0 exactly where all is proved.
-set -eu
+# `rt ci` runs over a copy of these crates, without the edits that must fail. The exit status is 0 exactly where all is proved. Beside a
+# program stands its mark then, PROGRAM.proved, of which tools/proved.py says more.
+set -eu -o pipefail
 
 cd "$(dirname "$0")/.."
 way=below
@@ -25,30 +26,41 @@ else
     program=$(realpath -m "${2:-bin/ripngd}")
 fi
 
-# `copy FOLDER WAY CRATE`: leaves these crates in a new folder.
+# `copy FROM FOLDER WAY CRATE`: leaves these crates in a new folder, as they stand below FROM.
 copy() {
-    mkdir "$1" "$1/crates"
-    cp HANDLES "$1"
-    for name in $(tools/crates.py "$2" "$3"); do
-        grep -E "^$name( staticlib)?:" crates.txt >> "$1/crates.txt"
-        mkdir "$1/crates/$name"
-        find "crates/$name" -mindepth 1 -maxdepth 1 ! -name out ! -name must-fail -exec cp -r -t "$1/crates/$name" {} +
+    mkdir "$2" "$2/crates"
+    cp "$1/HANDLES" "$2"
+    for name in $(tools/crates.py "$3" "$4"); do
+        grep -E "^$name( staticlib)?:" "$1/crates.txt" >> "$2/crates.txt"
+        mkdir "$2/crates/$name"
+        find "$1/crates/$name" -mindepth 1 -maxdepth 1 ! -name out ! -name must-fail -exec cp -r -t "$2/crates/$name" {} +
     done
-    git -C "$1" init -q
+    git -C "$2" init -q
 }
 
-copy "$folder" "$way" "$crate"
+# `judge FOLDER LOG [CRATE]`: runs `rt ci` there, and adds what it says to a log.
+judge() {
+    (cd "$1" && rt ci ${3:+"$3"}) 2>&1 | tee -a "$2"
+}
+
+logs=()
+copy . "$folder" "$way" "$crate"
 if [ "$crate" = ripngd_program ]; then
     # The crates up to the trace stand one on another and take longest, so a run of their own gives each of them all processors. Once
     # the router's core is proved, the daemon's are proved beside them by what these leave free. The kit keeps all for the last run.
-    (cd "$folder" && rt ci router_core) || true
-    copy "$room/daemon" below ripngd_daemon
-    (cd "$room/daemon" && exec nice -n 19 rt ci > /dev/null 2>&1) &
-    (cd "$folder" && rt ci ripngd_trace) || true
+    judge "$folder" "$room/first" router_core || true
+    copy "$folder" "$room/daemon" below ripngd_daemon
+    (cd "$room/daemon" && exec nice -n 19 rt ci > "$room/beside" 2>&1) &
+    judge "$folder" "$room/first" ripngd_trace || true
     wait
+    logs=("$room/first" "$room/beside")
 fi
-(cd "$folder" && rt ci) || { echo "$crate is not proved" >&2; exit 1; }
+judge "$folder" "$room/last" || { echo "$crate is not proved" >&2; exit 1; }
 if [ "$program" ]; then
+    made=$folder/crates/$crate/out/$crate
+    tools/proved.py write "$crate" "$made" "$folder" "${logs[@]}" "$room/last"
     mkdir -p "$(dirname "$program")"
-    cp "$folder/crates/$crate/out/$crate" "$program"
+    rm -f "$program.proved"
+    cp "$made" "$program"
+    cp "$made.proved" "$program.proved"
 fi

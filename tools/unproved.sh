@@ -15,12 +15,21 @@ level=${3:--O1}
 root=$(realpath "$crate/../..")
 . "$(dirname "$0")/lent.sh"
 
+# `mark_unproved FILE`: puts the word at the end of the version in that file, or fails where it has no such constant.
+mark_unproved() {
+    sed -i 's/^\(pub const VERSION: &str = "[^"]*\)";$/\1 unproved";/' "$1"
+    if [ "$(grep -c '^pub const VERSION: &str = "[^"]* unproved";$' "$1")" != 1 ]; then
+        echo "${1#"$folder/sources/"} has no constant VERSION in the form that tools/unproved.sh knows, so the program could not say that it is not proved" >&2
+        return 2
+    fi
+}
+
 kit=$(kit_folder) || exit
 folder=$(mktemp -d)
 trap 'rm -rf "$folder"' EXIT
 lend "$kit" "$folder"
 copy_sources "$root" "$folder/sources"
-sed -i 's/^\(pub const VERSION: &str = "[^"]*\)";/\1 unproved";/' "$folder/sources/crates/ripngd_command_line/src/help.rt"
+mark_unproved "$folder/sources/crates/ripngd_command_line/src/help.rt" || exit
 compile_unproved "$folder" "$(basename "$crate")" || exit
 
 # The kit's own words, without the address sanitizer; then the kit's own linker makes a program.
@@ -28,5 +37,6 @@ mapfile -t words < <(sed -e '/^-fsanitize=address$/d' -e "s/^-O0$/$level/" "$fol
 cd "$folder"
 "$kit/toolchain/bin/clang" "${words[@]}"
 mkdir -p "$(dirname "$program")"
+rm -f "$program.proved"
 "$kit/bin/rattle-link" --target x86_64-unknown-linux-gnu --toolchain "$kit/toolchain" -o "$program" "$folder/module.o" \
     "$kit/c/libos_c.a" "$kit/c/liblibc_c.a" > /dev/null

@@ -19,7 +19,7 @@ from spaces import Net, Wrong
 
 CASES = [networks.a_line, networks.a_ring, networks.a_lossy_cable, networks.many_routes]
 CASES += [edges.a_stranger, edges.many_neighbors, edges.a_flood, edges.a_killed_companion]
-CASES += [edges.addresses_come_and_go, edges.links_come_and_go, edges.the_page, edges.no_privilege, edges.an_unproved_router]
+CASES += [edges.addresses_come_and_go, edges.links_come_and_go, edges.the_page, edges.no_privilege]
 CASES += [addresses.one_address_on_two_links, addresses.a_neighbor_with_our_address, starts.a_slow_router]
 CASES += [starts.a_late_neighbor, starts.a_silent_neighbor]
 CASES += [changes.routes_stay, changes.what_is_not_told_goes, changes.routes_come_back, changes.a_link_goes_and_comes]

@@ -3,7 +3,6 @@
 import os
 import pathlib
 import signal
-import subprocess
 import sys
 import time
 
@@ -214,17 +213,6 @@ def the_page(net, program):
 def status(pid, key):
     lines = pathlib.Path(f"/proc/{pid}/status").read_text().splitlines()
     return next(line for line in lines if line.startswith(key + ":")).split()[1]
-
-
-def an_unproved_router(net, program):
-    """A program that says of itself that it is not proved is not started, unless that is asked for."""
-    other, table = net.folder / "another-program", net.folder / "another.toml"
-    other.write_text("#!/bin/sh\necho ripngd 0 unproved\n")
-    other.chmod(0o755)
-    table.write_text(f'user = "nobody"\nprogram = "{other}"\nfolder = "{net.folder}"\n[[link]]\ndevice = "lo"\n')
-    done = subprocess.run([sys.executable, COMPANION, table], capture_output=True, text=True, timeout=30, check=False)
-    same("the status", done.returncode, 1)
-    same("what is said", done.stderr, f"ripngd-links: {other} is not proved, and is taken only with --unproved\n")
 
 
 def no_privilege(net, program):

@@ -46,7 +46,8 @@ def of_version(package, version):
 def a_package(net, program):
     """Beside FRR's files it puts its own, and takes all of them away but the operator's table."""
     version = subprocess.run([program, "--version"], capture_output=True, text=True, check=True).stdout
-    first = made(net.folder, program, "unproved" in version)
+    is_proved = subprocess.run([ROOT / "tools/proved.py", "check", program], capture_output=True, check=False).returncode == 0
+    first = made(net.folder, program, not is_proved)
     trial = net.folder / "trial"
     trial.mkdir()
     words = ["unshare", "-m", "sh", "-c", TRIAL, "trial", trial, first, of_version(first, "9.9")]

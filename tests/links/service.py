@@ -162,7 +162,8 @@ def verify(folder):
     """Says nothing of the units, as they are installed."""
     (folder / "ripngd-links").symlink_to(COMPANION)
     for name in ("ripngd", "ripngd-links"):
-        text = (ROOT / f"docs/{name}@.service").read_text().replace("@bindir@", str(folder)).replace("@unproved@", "")
+        text = (ROOT / f"docs/{name}@.service").read_text()
+        text = text.replace("@bindir@", str(folder)).replace("@linksdir@", str(folder)).replace("@unproved@", "")
         (folder / f"{name}@.service").write_text(text)
         words = ["systemd-analyze", "verify", "--man=no", folder / f"{name}@.service"]
         same(f"faults of {name}@", subprocess.run(words, capture_output=True, text=True, check=False).stderr, "")
