@@ -46,7 +46,7 @@ class ClassCases:
         """R4 has heard R0 last at 120 s. Rounds come at 135 s and each 30 s later, so its route times out in the seventh. A link from R0 to R2
         gives R2 2, a round before R3 hears of it."""
         same("the report", self.report(folder, "cutLinks"),
-             ["This path goes over link 4, which was cut in line 21. R4 notices at 300 s, in 180 s, unless it hears of another path before. | 1 | "
+             ["This walk goes over link 4, which was cut in line 21. R4 notices at 300 s, in 180 s, unless it learns another route before. | 1 | "
               "A packet for 2001:db8::/32 from here, by the tables: R4 → R0, delivered: R0 originates it. But it is lost on hop 1, R4 → R0: link 4 was cut "
               "in line 21, and no table knows that.",
               "rounds 7 135000 30000 | A route changed in round 7 from here, 3 minutes later. | 2", "true | 1 2 3 4 5",
@@ -58,9 +58,9 @@ class ClassCases:
         first = 1 + script.index(expects[0])
         checks = ",".join(f"✓ R{router}, 2001:db8::/32: expected {metric}, found {metric}" for router, metric in enumerate((4, 16, 16)))
         same("the report", self.report(folder, "takeLessons"),
-             ["Lesson 1 of 29: How routes come | true | Question: two routers are on one link, and the first has a prefix. How does the second learn "
+             ["Lesson 1 of 30: How routes come | true | Question: two routers are on one link, and the first has a prefix. How does the second learn "
               "of it, with which metric, and does the first then believe its own news?",
-              "02-one-hop-a-round.lab | Lesson 2 of 29: How routes come | false",
+              "02-one-hop-a-round.lab | Lesson 2 of 30: How routes come | false",
               f"They poison each other's route, but each has advertised it to the owner, which now believes router 1. | 4 16 16 | {checks}",
               f"{len(expects)} | {len(expects)}", f"0 | 1 | {first} | Line {first}: expected R1 2001:db8::/32 5 found 2"])
 

@@ -28,7 +28,7 @@ export function shownCases({ same, traceOf, three }) {
       const none = traceOf(three.replace('own 2001:db8::/32 0\n', ''));
       same('the tally', tallyOf({ trace: none, step: 0 }).text.includes('0 of 0 route'), false);
       const lied = traceOf(`${three}liar 1 0 10 fe80::66 ${oneResponse('2001:db8:9::/48', 0, 1)}\n`), text = told(lied, { chosen: 'route 1 2001:db8:9::/48' });
-      same('the path', [text.includes('It comes from a forged update or a router that is not RIPng; no such path exists.'), text.includes('<table id="walk">')], [true, false]);
+      same('the walk', [text.includes('It comes from a forged update or a router that is not RIPng; there is no such walk.'), text.includes('<table id="walk">')], [true, false]);
     },
     // R2 has the route from R1, and without split horizon gives it back: 3 + 1.
     'what a router sends that is not RIPng': () => {
@@ -90,8 +90,8 @@ export function shownCases({ same, traceOf, three }) {
       same('before', rows(trace.steps.findIndex(({ record }) => record.line === 13) - 1), ['', 'in 180 s', 'in 180 s']);
       same('at 225 s', [trace.steps[step].now, ...rows(step)], [225000, '', 'deleted in 105 s', 'has run out']);
       const whyBehind = lines => /<p id="outage"[^>]*>(.*?)<\/p>/.exec(told(traceOf(`${three}rounds 3 0 15000\n${lines}`), { chosen: 'route 2 2001:db8::/32' }))?.[1];
-      same('why', whyBehind('cut 1\nsilent 2\nrounds 13 45000 15000\n'), 'This path goes over link 1, which was cut in line 11. R2 is down itself.');
-      same('before its timer runs', whyBehind('cut 1\nrounds 11 45000 15000\ntick 0 215000 0\n'), 'This path goes over link 1, which was cut in line 11. R2 notices when its timer runs.');
+      same('why', whyBehind('cut 1\nsilent 2\nrounds 13 45000 15000\n'), 'This walk goes over link 1, which was cut in line 11. R2 is down itself.');
+      same('before its timer runs', whyBehind('cut 1\nrounds 11 45000 15000\ntick 0 215000 0\n'), 'This walk goes over link 1, which was cut in line 11. R2 notices when its timer runs.');
     },
     // The browser says a field's title where what is typed is none.
     'what a prefix is, is said': () => {

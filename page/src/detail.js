@@ -102,14 +102,14 @@ function walkText(trace, step, router, entry) {
     <td>${datagram.datagram}</td><td>${stepLink(trace, datagram.sentAt)}</td><td>${stepLink(trace, cameAt)}</td></tr>`;
   return html`${sumText(trace, trace.steps[step].routers, walk, entry.route, isLiedTo(trace, step))}
     ${outagesText(trace, trace.steps[step], walk, entry.route.prefix)}
-    ${walk.hops.length === 0 ? '' : html`<table id="walk">${headsOf(['hop', 'path', 'cost', 'advertised by', 'in datagram', 'sent', 'received'])}
+    ${walk.hops.length === 0 ? '' : html`<table id="walk">${headsOf(['hop', 'from and to', 'cost', 'advertised by', 'in datagram', 'sent', 'received'])}
     <tbody>${walk.hops.map(hopRow)}</tbody></table>`}`;
 }
 
-// The path as a sum, with the rings that it goes around.
+// The walk as a sum, with the rings that it goes around.
 function sumText(trace, routers, { hops, owner, sum }, { metric, prefix }, isLied) {
-  if (owner === null && isLied) return html`<p class="bad">It comes from a forged update or a router that is not RIPng; no such path exists.</p>`;
-  if (owner === null) return html`<p class="bad">No path to an owner is found in the trace.</p>`;
+  if (owner === null && isLied) return html`<p class="bad">It comes from a forged update or a router that is not RIPng; there is no such walk.</p>`;
+  if (owner === null) return html`<p class="bad">No walk to an owner is found in the trace.</p>`;
   const { way, rings } = withoutRings(trace, [...hops.map(hop => hop.end.router), owner]);
   const past = routers[owner].prefixes.some(own => own.prefix === prefix) ? '' : `; ${nameOf(trace, owner)} originated the prefix then`;
   const around = [...rings].map(([ring, times]) => {
@@ -133,8 +133,8 @@ function outagesText(trace, { out, routers, now }, { hops }, prefix) {
   const isUsed = route?.metric < UNREACHABLE && route.gateway?.iface === end.iface && route.until !== null;
   const left = isUsed && Math.ceil((route.until - now) / 1000), when = out.has(`router ${end.router}`) ? ` ${name} is down itself.`
     : !isUsed ? ` ${name} has noticed.` : left <= 0 ? ` ${name} notices when its timer runs.`
-    : ` ${name} notices at ${route.until / 1000} s, in ${left} s, unless it hears of another path before.`;
-  return html`<p id="outage" class="bad">This path goes over ${text} in line ${line}.${when}</p>`;
+    : ` ${name} notices at ${route.until / 1000} s, in ${left} s, unless it learns another route before.`;
+  return html`<p id="outage" class="bad">This walk goes over ${text} in line ${line}.${when}</p>`;
 }
 
 function whyUnreachable(trace, { cause, route }) {
