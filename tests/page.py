@@ -282,7 +282,9 @@ class Page(ClassCases):
 
 
 def cases_of(page):
-    cases = [(f"film of {file.stem}", lambda folder, name=file.stem: page.example(folder, name)) for file in (ROOT / "examples").glob("*.lab")]
+    # The page shows all tables where a script prints: of an example that prints one router's, it shows more.
+    whole = [file.stem for file in (ROOT / "examples").glob("*.lab") if "print" in file.read_text().splitlines()]
+    cases = [(f"film of {name}", lambda folder, name=name: page.example(folder, name)) for name in whole]
     cases += [(name.replace("_", " "), getattr(page, name)) for name in (
         "called_off", "acts", "keys", "undo", "drafts", "refused_clicks", "changes", "address", "least_costs", "counting", "edit", "faults",
         "drawing_stays", "files", "rounds", "updates", "losing", "forging", "cutting", "lessons", "blanks", "names", "quiz", "matrix", "removing", "packets", "crowds", "letters")]
