@@ -15,7 +15,7 @@
 # make bench        times of a router and its forwarding table, as tables grow
 # make beside       what a route costs here and in BIRD, one after the other (needs root and BIRD, a package of the system)
 # make pictures     pictures of the examples, below docs (needs Chromium, a package of the system)
-# make mutants      wrong programs that no contract sees: which test catches each (half an hour)
+# make mutants      wrong programs that no contract sees: which test catches each (an estimated half an hour)
 # make clean        forgets what earlier runs built here
 
 HEX ?= 02010000
