@@ -33,8 +33,6 @@ REFUSED = {
     r"in how many": "how many",
     r"nor of a\b": "neither .. nor",
 }
-# A comment that changes has its crate proved anew, and all that stand on it. These are at the bottom, and not read yet.
-UNREAD = {"prefix6", "ripng_wire", "route_table", "fib", "router_core", "ripng_world", "ripng_phases", "ripngd_networks", "ripngd_engine"}
 # The glossary names words of code in order to translate them.
 GLOSSARY = "docs/READING-SPECS.md"
 
@@ -116,11 +114,10 @@ class Page:
 
 
 def comments(root):
-    """The doc comments of crates that are read, the lines of one file after another; what is no comment is an empty line."""
+    """The doc comments of the crates, the lines of one file after another; what is no comment is an empty line."""
     for file in sorted(root.glob("crates/*/src/**/*.rt")):
-        if file.relative_to(root).parts[1] not in UNREAD:
-            said = [re.match(r"\s*//[/!] ?(.*)", line) for line in file.read_text().splitlines()]
-            yield file.relative_to(root), [line[1] if line else "" for line in said]
+        said = [re.match(r"\s*//[/!] ?(.*)", line) for line in file.read_text().splitlines()]
+        yield file.relative_to(root), [line[1] if line else "" for line in said]
 
 
 def faults(root):

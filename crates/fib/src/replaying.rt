@@ -1,4 +1,4 @@
-//! Replaying changes: first all installs, which may want memory, and then the withdrawals, which want none.
+//! Replaying changes: first all installs, which may take memory, and then the withdrawals, which take none.
 
 ghost use Rattle.std.specs.Prelude.{◌≡◌, ℕ, ◌≤◌, ◌++◌, [], ◌∷◌, false, IsOk, OnOk, OnErr, None, cond, count_by, drop};
 ghost use Rattle.fib.specs.Common.{filter, Prefix6, is_install, Replays, undone, undo_of, has_install, is_gone, restored, CanRestore, CanUndo};

@@ -15,8 +15,8 @@ use std::marker::Model;
 /// The most routes of a block.
 const LIMIT: usize = 128;
 
-/// How many routes a full block keeps when it is split, and the most that two blocks have together when they are joined: at least so
-/// many routes come or go between the one and the other.
+/// How many routes a full block keeps when it is split, and the most that two blocks have together when they are joined: at least that
+/// number of routes come or go between a split and a join.
 const HALF: usize = 64;
 
 /// At most `LIMIT` routes. The summary is a bound: no deadline is earlier, and no route change flag is set unless it says so.
@@ -181,7 +181,7 @@ impl Block {
         };
     }
 
-    /// Appends the first routes past the prefix, at most so many, for which the vector must have room: how many are still wanted.
+    /// Appends the first routes past the prefix, at most `most`, for which the vector must have room: how many are still wanted.
     fn list_run(&self, after: &Option<Prefix>, most: usize, out: &mut Vec<(Prefix, Route)>) -> usize
         requires room { vec_len out.old + most ≤ vec_capacity out.old }
         ensures items { out.new.items ≡ out.old.items ++ take most (past after.now self.now) }

@@ -132,7 +132,7 @@ pub fn list(blocks: &[Block], out: &mut Vec<(Prefix, Route)>)
     }
 }
 
-/// Appends the first routes past the prefix that are wanted, at most so many. The vector must have room for them.
+/// Appends the first routes past the prefix that are wanted, at most `most`. The vector must have room for them.
 pub fn list_wanted(
     blocks: &[Block],
     after: &Option<Prefix>,
@@ -207,8 +207,8 @@ fn join(blocks: &mut Vec<Block>, at: usize)
     }
 }
 
-/// Removes the route to a prefix, and its block if that is left empty, or else joins this with the block behind it or before it if they
-/// are small. Two blocks side by side then have more than 64 routes, or the first never had room for so many.
+/// Removes the route to a prefix, and its block if that is left empty, or else joins this with the block after it or before it if they
+/// are small. Two blocks side by side then have more than 64 routes, or the first never had room for more.
 ///
 /// The worst case is a bisection over the blocks, a look at the 128 routes of one, and twice a copy of at most 63 routes and a move of
 /// all blocks behind.

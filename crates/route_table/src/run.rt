@@ -81,7 +81,7 @@ pub fn first_wanted(
     None
 }
 
-/// Appends the first wanted of the routes, at most so many, for which the vector must have room: how many are still asked for.
+/// Appends the first wanted of the routes, at most `most`, for which the vector must have room: how many are still asked for.
 pub fn list_wanted(
     routes: &[(Prefix, Route)],
     wanted: Wanted,
