@@ -27,6 +27,7 @@ fn config(alloc: Global) -> io::Result<RouterConfig> {
         addr: link_local(1),
         cost: 1,
         mtu: 1500,
+        zone: 0,
     };
     let interfaces = vec![in alloc; interface]?;
     match RouterConfig::check(interfaces, Vec::new(alloc), false) {

@@ -1,5 +1,5 @@
 -- A lawful configuration stays lawful as it is changed.
-use Rattle.std.proofs.Common.{◌≡◌, ◌⊎◌, inl, inr, ℕ, zero, suc, ◌+◌, ◌<◌, ◌≤◌, Bool, true, false, cond, not, ◌||◌, ◌==◌, nat_lt, List, [], ◌∷◌, ◌++◌, map, take, length, get_or, Some, None, unwrap_or, option_map, slice_get, slice_set, All, refl, ap, sym, subst, ◌∙◌, arith}
+use Rattle.std.proofs.Common.{◌≡◌, ◌&&◌, ◌⊎◌, inl, inr, ℕ, zero, suc, ◌+◌, ◌<◌, ◌≤◌, Bool, true, false, cond, not, ◌||◌, ◌==◌, nat_lt, List, [], ◌∷◌, ◌++◌, map, take, length, get_or, Some, None, unwrap_or, option_map, slice_get, slice_set, All, refl, ap, sym, subst, ◌∙◌, arith}
 use Rattle.std.specs.List.{AllByRecursion, enumerate_from, flat_map, list_any}
 use Rattle.std.specs.FinMap as map_of
 use Rattle.std.proofs.lemmas.Bool.Decides.{nat_tests}
@@ -82,28 +82,31 @@ module _ (xs : List Interface) (k cost : ℕ) (x : Interface) (is : slice_get xs
   changed : List Interface
   changed = slice_set xs k (record x { cost = cost })
 
-  same_addresses : (ys : List Interface) (j : ℕ) → slice_get ys j ≡ Some x → map (λ (i : Interface). i.addr) (slice_set ys j (record x { cost = cost })) ≡ map (λ (i : Interface). i.addr) ys
-  same_addresses [] j e = refl
-  same_addresses (y ∷ ys) zero e = ap (λ a. a ∷ map (λ (i : Interface). i.addr) ys) (sym (ap (λ (i : Interface). i.addr) (Some-same y x e)))
-  same_addresses (y ∷ ys) (suc j) e = ap (λ rest. y.addr ∷ rest) (same_addresses ys j e)
+  abbrev placed_by : Interface → ℕ × ℕ
+  placed_by i = (i.zone, i.addr)
 
-  same_earlier : (j a : ℕ) → has_address (take j (slice_set xs k (record x { cost = cost }))) a ≡ has_address (take j xs) a
-  same_earlier j a =
-      sym (any_map (λ b. b == a) (λ (i : Interface). i.addr) (take j (slice_set xs k (record x { cost = cost }))))
-      ∙ ap (list_any (λ b. b == a)) (sym (take-map (λ (i : Interface). i.addr) j (slice_set xs k (record x { cost = cost })))
-      ∙ ap (take j) (same_addresses xs k is) ∙ take-map (λ (i : Interface). i.addr) j xs)
-      ∙ any_map (λ b. b == a) (λ (i : Interface). i.addr) (take j xs)
+  same_addresses : (ys : List Interface) (j : ℕ) → slice_get ys j ≡ Some x → map placed_by (slice_set ys j (record x { cost = cost })) ≡ map placed_by ys
+  same_addresses [] j e = refl
+  same_addresses (y ∷ ys) zero e = ap (λ a. a ∷ map placed_by ys) (sym (ap placed_by (Some-same y x e)))
+  same_addresses (y ∷ ys) (suc j) e = ap (λ rest. placed_by y ∷ rest) (same_addresses ys j e)
+
+  same_earlier : (j z a : ℕ) → has_address (take j (slice_set xs k (record x { cost = cost }))) z a ≡ has_address (take j xs) z a
+  same_earlier j z a =
+      sym (any_map (λ (b : ℕ × ℕ). b.0 == z && b.1 == a) placed_by (take j (slice_set xs k (record x { cost = cost }))))
+      ∙ ap (list_any (λ (b : ℕ × ℕ). b.0 == z && b.1 == a)) (sym (take-map placed_by j (slice_set xs k (record x { cost = cost })))
+      ∙ ap (take j) (same_addresses xs k is) ∙ take-map placed_by j xs)
+      ∙ any_map (λ (b : ℕ × ℕ). b.0 == z && b.1 == a) placed_by (take j xs)
 
   module _ (usable : is_usable_cost cost ≡ true) (at : (j : ℕ) (z : Interface) → slice_get xs j ≡ Some z → EachPasses (interface_reasons (take j xs) z)) where
     still : (j : ℕ) (y : Interface) → slice_get (slice_set xs k (record x { cost = cost })) j ≡ Some y → EachPasses (interface_reasons (take j (slice_set xs k (record x { cost = cost }))) y)
     still j y e = by_place (placed xs k (record x { cost = cost }) j y e)
       where
         by_place : ((k ≡ j) × (record x { cost = cost } ≡ y)) ⊎ (slice_get xs j ≡ Some y) → EachPasses (interface_reasons (take j (slice_set xs k (record x { cost = cost }))) y)
-        by_place (inr there) = let h = at j y there in (h.0, (same_earlier j y.addr ∙ h.1.0, h.1.1))
+        by_place (inr there) = let h = at j y there in (h.0, (same_earlier j y.zone y.addr ∙ h.1.0, h.1.1))
         by_place (inl both) =
             let h = at k x is in
             subst (λ (z : Interface). EachPasses (interface_reasons (take j (slice_set xs k (record x { cost = cost }))) z)) both.1
-            (h.0, (same_earlier j x.addr ∙ ap (λ m. has_address (take m xs) x.addr) (sym both.0) ∙ h.1.0, (ap not usable, h.1.1.1)))
+            (h.0, (same_earlier j x.zone x.addr ∙ ap (λ m. has_address (take m xs) x.zone x.addr) (sym both.0) ∙ h.1.0, (ap not usable, h.1.1.1)))
 
 pub lawful_cost : (c : Config) → IsConfig c → (k cost : ℕ) (x : Interface) → slice_get c.interfaces k ≡ Some x → is_usable_cost cost ≡ true
     → IsConfig (record c { interfaces = slice_set c.interfaces k (record x { cost = cost }) })

@@ -1,60 +1,63 @@
 -- A Response heard up to a place, and one entry further: a next hop entry, one that is refused, or an offer that is met.
-use Rattle.std.proofs.Common.{◌≡◌, ℕ, zero, suc, ◌+◌, ◌<◌, ◌≤◌, Bool, true, false, cond, not, ◌&&◌, List, [], ◌∷◌, ◌++◌, map, take, length, drop, reverse, find, All, Contains, IsTrue, Option, Some, None, is_none, is_some, unwrap_or, slice_get, refl, ap, ap₂, sym, subst, ◌∙◌, inl, inr, arith, add-one, append-nil}
-use Rattle.std.specs.Prelude.{nat_le, if◌then◌else◌, slice_index, option_and_then, filter_map}
+use Rattle.std.proofs.Common.{◌≡◌, ℕ, ◌+◌, ◌<◌, ◌≤◌, Bool, true, false, cond, not, ◌&&◌, List, [], ◌∷◌, ◌++◌, map, length, All, Contains, IsTrue, Option, Some, None, IfSome, is_none, is_some, unwrap_or, slice_get, refl, ap, ap₂, sym, subst, ◌∙◌, inl, inr, arith, add-zero, append-nil}
+use Rattle.std.specs.Prelude.{nat_lt, nat_le, if◌then◌else◌, filter_map}
 use Rattle.std.specs.List.{enumerate_from, cons_option}
 use Rattle.std.specs.List.Sorted.{IsStrictlyIncreasing}
 use Rattle.std.specs.FinMap as map_of
-use Rattle.std.proofs.lemmas.Bool.{cases_lt, lt-leb}
+use Rattle.std.proofs.lemmas.Bool.{cases_lt}
 use Rattle.std.proofs.lemmas.Bool.Decides.{nat_tests}
-use Rattle.std.proofs.lemmas.List.{reverse-append, take_all, map-append}
+use Rattle.std.proofs.lemmas.List.{take_all, map-append}
 use Rattle.std.proofs.lemmas.List.FromFn.{length-enumerate_from}
 use Rattle.std.proofs.lemmas.List.Elements.{All-map, All-weaker, All-push}
 use Rattle.std.proofs.lemmas.Option.{slice_get_within}
 use Rattle.prefix6.specs.Prefix.{Prefix6, same_prefix}
 use Rattle.prefix6.proofs.PrefixLaws.{same_prefix-true}
-use Rattle.fib.specs.declared.change.Hop.{Hop}
-use Rattle.fib.specs.declared.change.Hop.TheVariants.{Direct, Via}
 use Rattle.fib.specs.declared.change.RouteChange.{RouteChange}
-use Rattle.fib.specs.Forwarding.{Forward, same_hop, same_forward, change_to}
 use Rattle.ripng_wire.specs.declared.rte.Rte.{Rte}
 use Rattle.ripng_wire.specs.Layout.{is_next_hop}
-use Rattle.route_table.specs.Route.{RouteValue}
+use Rattle.ripng_wire.specs.Wire.{first_reason}
+use Rattle.route_table.specs.Route.{infinity}
 use Rattle.route_table.specs.Table.{Table, table_limit}
 use Rattle.route_table.proofs.TableSteps.{get-with_value}
 use Rattle.router_core.specs.Config.{Config}
-use Rattle.router_core.specs.Offers.{Offer, offer_at, is_offer, flaw, prefix_named, next_hop_at, usable_hop}
+use Rattle.router_core.specs.Offers.{offer_at, is_offer, flaw, prefix_named, next_hop_at}
 use Rattle.router_core.specs.Adoption.{Gateway, adopted}
-use Rattle.router_core.specs.Hearing.{Hearing, Heard, is_refused, is_refusal, route_after, would_add, held_after, notes_of_offer, allowed_notes, note_at}
-use Rattle.router_core.specs.Changes.{forward, change, change_at, changes_of_hearing}
-use Rattle.router_core.specs.Meeting.{Meeting, entry_meeting, met, table_met, change_met, adds, refusal_of_new}
+use Rattle.router_core.specs.Filters.{is_accepted, is_by, is_limit_reached, limit_at, refusal}
+use Rattle.router_core.specs.Hearing.{Hearing, Heard, is_refused, is_refusal, route_after, would_add, would_bring, held_by, brought_after, refusal_at, held_after, notes_by_refusal, notes_of_offer, allowed_notes, note_at}
+use Rattle.router_core.specs.Changes.{change, change_at, changes_of_hearing}
+use Rattle.router_core.specs.Meeting.{Meeting, entry_meeting, met, table_met, change_met, adds, brings, refusal_of_new}
 use Rattle.router_core.specs.declared.answer.Note.{Note}
 use Rattle.router_core.specs.declared.answer.NoteKind.{NoteKind}
-use Rattle.router_core.specs.declared.answer.NoteKind.TheVariants.{TableFull, NoMemory}
-use Rattle.router_core.proofs.HearingSteps.{heard_one, before_all, after_one, same_as_key, size_after, take_push}
-use Rattle.router_core.proofs.NotesKept.{by, SameBelow, noted_at, noted_at-none, noted_at-push_other, noted_at-push_here, changes_before, changes_before-push, changes_before-same, route_after-same, allowed_notes-same}
+use Rattle.router_core.specs.declared.answer.NoteKind.TheVariants.{TableFull, NoMemory, NotAccepted, LimitReached}
+use Rattle.router_core.proofs.HearingSteps.{heard_one, before_all, after_one, brought_more, same_as_key, size_after}
+use Rattle.router_core.proofs.NotesKept.{by, SameBelow, noted_at, noted_at-none, noted_at-push_other, noted_at-push_here, changes_before, changes_before-push, changes_before-same, route_after-same, brought_after-same, allowed_notes-same}
+use Rattle.router_core.proofs.HearingCases.{if_counted, if_counted₂, if_any, some_same, increasing_push, change-same, first_route, none_allowed, refusal_allowed, refusal_is, reached-same, refuses}
 
--- the entries before a place are heard
-pub record HeardBefore (h : Hearing) (after : Table) (changes : List RouteChange) (place : ℕ) : Type 0 where
+-- the entries before a place are heard, and where the interface has a limit so many routes are held by way of it
+pub record HeardBefore (h : Hearing) (after : Table) (changes : List RouteChange) (held place : ℕ) : Type 0 where
   pub routes : (p : Prefix6) → map_of.get after p ≡ route_after h place p
   pub noted : (k : ℕ) (e : Rte) → k < place → slice_get h.entries k ≡ Some e → Contains (allowed_notes h k e) (note_at h k)
   pub in_order : IsStrictlyIncreasing (map (λ n. n.entry) h.notes)
   pub placed : All (λ n. n.entry < place) h.notes
   pub changed : changes ≡ changes_before h place
+  pub counted : IfSome (limit_at h.config h.gateway.iface) (λ n. held ≡ brought_after h place)
 
 -- before the first entry
-pub heard_none : (config : Config) (gateway : Gateway) (entries : List Rte) (before : Table) → HeardBefore (by config gateway entries before []) before [] 0
-heard_none config gateway entries before = record {
+pub heard_none : (config : Config) (gateway : Gateway) (entries : List Rte) (before : Table) (held : ℕ)
+    → IfSome (limit_at config gateway.iface) (λ n. held ≡ held_by gateway.iface before) → HeardBefore (by config gateway entries before []) before [] held 0
+heard_none config gateway entries before held counted = record {
   routes = λ p. sym (before_all (by config gateway entries before []) p);
   noted = λ k e lt. absurd (omega arith);
   in_order = λ k lt. absurd (omega arith);
   placed = λ k d lt. absurd (omega arith);
   changed = refl;
+  counted = if_counted (limit_at config gateway.iface) (λ is. is ∙ sym (add-zero (held_by gateway.iface before))) counted;
 }
 
 -- behind the last one
-pub heard_all : (h : Hearing) (after : Table) (changes : List RouteChange) (place : ℕ) → place ≡ length h.entries
-    → HeardBefore h after changes place → Heard h after × (changes ≡ changes_of_hearing h)
-heard_all h after changes place all heard = (
+pub heard_all : (h : Hearing) (after : Table) (changes : List RouteChange) (held place : ℕ) → place ≡ length h.entries
+    → HeardBefore h after changes held place → Heard h after × (changes ≡ changes_of_hearing h)
+heard_all h after changes held place all heard = (
   record {
     routes = λ p. heard.routes p ∙ ap (λ k. route_after h k p) all;
     noted = λ k e is. heard.noted k e (subst (λ n. k < n) (sym all) (slice_get_within h.entries k e is)) is;
@@ -67,56 +70,6 @@ heard_all h after changes place all heard = (
     filter_of : (h : Hearing) → List (ℕ × Rte) → List RouteChange
     filter_of h = λ ts. filter_map (λ t. change_at h t.0 t.1) ts
 
--- ---- small lemmas
-
-some_same : (a b : Rte) → Some a ≡ Some b → a ≡ b
-some_same a b q = cc
-
-increasing_push : (xs : List ℕ) (y : ℕ) → IsStrictlyIncreasing xs → All (λ x. x < y) xs → IsStrictlyIncreasing (xs ++ y ∷ [])
-increasing_push [] y up below k lt = absurd (omega arith)
-increasing_push (x ∷ []) y up below zero lt = below 0 0 (omega arith)
-increasing_push (x ∷ []) y up below (suc k) lt = absurd (omega arith)
-increasing_push (x ∷ z ∷ xs) y up below zero lt = up 0 (omega arith)
-increasing_push (x ∷ z ∷ xs) y up below (suc k) lt =
-    let suc-one : (j : ℕ) → suc (j + 1) ≡ suc j + 1 = λ j. omega arith in
-    subst (λ n. slice_index ((z ∷ xs) ++ y ∷ []) k < slice_index (x ∷ (z ∷ xs) ++ y ∷ []) n) (suc-one k)
-    (increasing_push (z ∷ xs) y
-    (λ j l. subst (λ n. slice_index (z ∷ xs) j < slice_index (x ∷ z ∷ xs) n) (sym (suc-one j)) (up (suc j) (omega arith)))
-    (λ j d l. below (suc j) d (omega arith)) k (omega arith))
-
-same_hop-refl : (h : Hop) → same_hop h h ≡ true
-same_hop-refl Direct = refl
-same_hop-refl (Via iface next_hop) = grind (arith, nat_tests)
-
-same_forward-refl : (f : Option Forward) → same_forward f f ≡ true
-same_forward-refl None = refl
-same_forward-refl (Some f) = grind (arith, nat_tests, same_hop-refl f.hop)
-
--- nothing changes where the route stays
-change-same : (p : Prefix6) (r : Option RouteValue) → change p r r ≡ None
-change-same p r = ap (λ b. if b then None else Some (change_to p (option_and_then forward r))) (same_forward-refl (option_and_then forward r))
-
--- whether a first route comes does not hang on how that is asked
-first_route : (g : Gateway) (o : Offer) (old : Option RouteValue) → (is_none old && is_some (adopted g None o)) ≡ (is_none old && is_some (adopted g old o))
-first_route g o None = refl
-first_route g o (Some r) = refl
-
--- the note that a first route gets, or that it gets none
-none_allowed : (b : Bool) (held : ℕ) → (b ≡ true → held < table_limit)
-    → Contains (if b then (if nat_le table_limit held then Some TableFull ∷ [] else None ∷ Some NoMemory ∷ []) else None ∷ []) None
-none_allowed false held room = (0, omega arith, refl)
-none_allowed true held room =
-    subst (λ (c : Bool). Contains (if c then Some TableFull ∷ [] else None ∷ Some NoMemory ∷ []) None) (sym (lt-leb table_limit held (room refl)))
-    (0, omega arith, refl)
-
-refusal_allowed : (c : Bool) → Contains (if c then Some TableFull ∷ [] else None ∷ Some NoMemory ∷ []) (Some (if c then TableFull else NoMemory))
-refusal_allowed true = (0, omega arith, refl)
-refusal_allowed false = (1, omega arith, refl)
-
-refusal_is : (c : Bool) → is_refusal (Some (if c then TableFull else NoMemory)) ≡ true
-refusal_is true = refl
-refusal_is false = refl
-
 -- ---- one entry more, whatever it is
 module _ (config : Config) (gateway : Gateway) (entries : List Rte) (before : Table) where
   abbrev heard_by : List Note → Hearing
@@ -127,21 +80,23 @@ module _ (config : Config) (gateway : Gateway) (entries : List Rte) (before : Ta
   change_here e now new = if is_offer e then change (prefix_named e) (map_of.get now (prefix_named e)) (map_of.get new (prefix_named e)) else None
 
   -- what the entry at a place makes of the notes, the changes and the table
-  record GoesOn (place : ℕ) (e : Rte) (notes more : List Note) (changes told : List RouteChange) (now new : Table) : Type 0 where
+  record GoesOn (place : ℕ) (e : Rte) (notes more : List Note) (changes told : List RouteChange) (held holds : ℕ) (now new : Table) : Type 0 where
     kept : SameBelow config gateway entries before more notes place
     here : Contains (allowed_notes (heard_by more) place e) (noted_at more place)
     in_order : IsStrictlyIncreasing (map (λ n. n.entry) more)
     placed : All (λ n. n.entry < place + 1) more
     routes : (p : Prefix6) → map_of.get new p ≡ heard_one (heard_by more) place e p (map_of.get now p)
     changed : told ≡ changes ++ cons_option (change_here e now new) []
+    counted : IfSome (limit_at config gateway.iface) (λ n. holds ≡ held + cond (would_bring (heard_by more) place e && not (is_refusal (noted_at more place))) 1 0)
 
-  module _ (place : ℕ) (e : Rte) (is : slice_get entries place ≡ Some e) (notes : List Note) (changes : List RouteChange) (now : Table)
-      (heard : HeardBefore (heard_by notes) now changes place) where
+  module _ (place : ℕ) (e : Rte) (is : slice_get entries place ≡ Some e) (notes : List Note) (changes : List RouteChange) (held : ℕ) (now : Table)
+      (heard : HeardBefore (heard_by notes) now changes held place) where
     fits : place ≤ length entries
     fits = let within : place < length entries = slice_get_within entries place e is in omega arith
 
-    on : (more : List Note) (told : List RouteChange) (new : Table) → GoesOn place e notes more changes told now new → HeardBefore (heard_by more) new told (place + 1)
-    on more told new o = record {
+    on : (more : List Note) (told : List RouteChange) (holds : ℕ) (new : Table) → GoesOn place e notes more changes told held holds now new
+        → HeardBefore (heard_by more) new told holds (place + 1)
+    on more told holds new o = record {
       routes = after_is;
       noted = noted_more;
       in_order = o.in_order;
@@ -151,6 +106,12 @@ module _ (config : Config) (gateway : Gateway) (entries : List Rte) (before : Ta
           ∙ ap₂ (λ cs c. cs ++ cons_option c []) (heard.changed ∙ sym (changes_before-same config gateway entries before more notes place fits o.kept))
           (ap₂ (λ a b. if is_offer e then change (prefix_named e) a b else None) (before_is (prefix_named e)) (after_is (prefix_named e)))
           ∙ sym (changes_before-push (heard_by more) place e is);
+      counted = if_counted₂ (limit_at config gateway.iface)
+          (λ was grows. grows
+          ∙ ap (λ k. k + cond (would_bring (heard_by more) place e && not (is_refusal (noted_at more place))) 1 0)
+          (was ∙ sym (brought_after-same config gateway entries before more notes place fits o.kept))
+          ∙ sym (brought_more (heard_by more) place e is))
+          heard.counted o.counted;
     }
       where
         before_is : (p : Prefix6) → map_of.get now p ≡ route_after (heard_by more) place p
@@ -178,8 +139,12 @@ module _ (config : Config) (gateway : Gateway) (entries : List Rte) (before : Ta
     placed_still : All (λ (n : Note). n.entry < place + 1) notes
     placed_still = All-weaker (λ (n : Note). n.entry < place) (λ (n : Note). n.entry < place + 1) (λ n h. omega arith) notes heard.placed
 
-    pub next_hop_heard : is_next_hop e ≡ true → HeardBefore (heard_by notes) now changes (place + 1)
-    next_hop_heard hop = on notes changes now (record {
+    -- the count stays where no route is brought
+    count_stays : (brought : Bool) → brought ≡ false → IfSome (limit_at config gateway.iface) (λ n. held ≡ held + cond brought 1 0)
+    count_stays brought none = if_any (limit_at config gateway.iface) (sym (ap (λ b. held + cond b 1 0) none ∙ add-zero held))
+
+    pub next_hop_heard : is_next_hop e ≡ true → HeardBefore (heard_by notes) now changes held (place + 1)
+    next_hop_heard hop = on notes changes held now (record {
       kept = λ k h. refl;
       here = subst (λ o. Contains (allowed_notes (heard_by notes) place e) o) (sym no_note)
           (subst (λ (b : Bool). Contains (if b then None ∷ [] else notes_of_offer (heard_by notes) place e (flaw e)) None) (sym hop) (0, omega arith, refl));
@@ -189,6 +154,10 @@ module _ (config : Config) (gateway : Gateway) (entries : List Rte) (before : Ta
           (adopted gateway (map_of.get now p) (offer_at config gateway.from entries place e)) (map_of.get now p)) (sym hop);
       changed = sym (append-nil changes)
           ∙ ap (λ b. changes ++ cons_option (if (not b && is_none (flaw e)) then change (prefix_named e) (map_of.get now (prefix_named e)) (map_of.get now (prefix_named e)) else None) []) (sym hop);
+      counted = count_stays (would_bring (heard_by notes) place e && not (is_refusal (noted_at notes place)))
+          (ap (λ b. ((not b && is_none (flaw e)) && not (is_by gateway.iface (route_after (heard_by notes) place (prefix_named e)))
+          && is_by gateway.iface (adopted gateway (route_after (heard_by notes) place (prefix_named e)) (offer_at config gateway.from entries place e)))
+          && not (is_refusal (noted_at notes place))) hop);
     })
 
     -- ---- offers and refused entries
@@ -205,6 +174,23 @@ module _ (config : Config) (gateway : Gateway) (entries : List Rte) (before : Ta
       is_offer-by : (f : Option NoteKind) → flaw e ≡ f → is_offer e ≡ is_none f
       is_offer-by f flawed = ap₂ (λ b x. not b && is_none x) not_hop flawed
 
+      would_bring-is : (more : List Note) → SameBelow config gateway entries before more notes place → flaw e ≡ None → would_bring (heard_by more) place e ≡ brings this_meeting
+      would_bring-is more kept flawless =
+          ap₂ (λ b r. b && not (is_by gateway.iface r) && is_by gateway.iface (adopted gateway r (offer_at config gateway.from entries place e)))
+          (is_offer-by None flawless) (route_after-same config gateway entries before more notes place kept named ∙ sym (heard.routes named))
+          ∙ ap (λ o. not (is_by gateway.iface (map_of.get now named)) && is_by gateway.iface (adopted gateway (map_of.get now named) o)) (sym offer_is)
+
+      -- why the interface refuses the offer, if it does
+      abbrev why : Option NoteKind
+      why = refusal config gateway.iface e (brings this_meeting) held
+
+      refusal-is : (more : List Note) → SameBelow config gateway entries before more notes place → flaw e ≡ None → refusal_at (heard_by more) place e ≡ why
+      refusal-is more kept flawless =
+          ap (λ b. refusal config gateway.iface e b (brought_after (heard_by more) place)) (would_bring-is more kept flawless)
+          ∙ ap (λ full. first_reason ((nat_lt e.metric infinity && not (is_accepted config gateway.iface (prefix_named e)), NotAccepted) ∷ (brings this_meeting && full, LimitReached) ∷ []))
+          (sym (reached-same (limit_at config gateway.iface) held (brought_after (heard_by more) place)
+          (if_counted (limit_at config gateway.iface) (λ was. was ∙ sym (brought_after-same config gateway entries before more notes place fits kept)) heard.counted)))
+
       allowed-by : (more : List Note) (f : Option NoteKind) → flaw e ≡ f → allowed_notes (heard_by more) place e ≡ notes_of_offer (heard_by more) place e f
       allowed-by more f flawed = ap₂ (λ b x. if b then None ∷ [] else notes_of_offer (heard_by more) place e x) not_hop flawed
 
@@ -215,18 +201,25 @@ module _ (config : Config) (gateway : Gateway) (entries : List Rte) (before : Ta
           ∙ first_route gateway (offer_at config gateway.from entries place e) (map_of.get now named)
           ∙ ap (λ o. is_none (map_of.get now named) && is_some (adopted gateway (map_of.get now named) o)) (sym offer_is)
 
+      -- the notes that are allowed on a sound entry
+      allowed-sound : (more : List Note) → SameBelow config gateway entries before more notes place → flaw e ≡ None → (r : Option NoteKind) → why ≡ r
+          → allowed_notes (heard_by more) place e ≡ notes_by_refusal (heard_by more) place e r
+      allowed-sound more kept flawless r is_why =
+          allowed-by more None flawless ∙ ap (notes_by_refusal (heard_by more) place e) (refusal-is more kept flawless ∙ is_why)
+
       held-is : (more : List Note) → SameBelow config gateway entries before more notes place → held_after (heard_by more) place ≡ map_of.len now
       held-is more kept = sym (size_after (heard_by more) place fits now (λ p. heard.routes p ∙ sym (route_after-same config gateway entries before more notes place kept p)))
 
       -- the offer meets the table
-      pub offer_heard : flaw e ≡ None → (IsTrue (adds this_meeting) → map_of.len now < table_limit)
+      pub offer_heard : flaw e ≡ None → why ≡ None → (IsTrue (adds this_meeting) → map_of.len now < table_limit)
           → (made : Option RouteChange) → made ≡ change_met this_meeting
           → (new : Table) → new ≡ table_met this_meeting
-          → HeardBefore (heard_by notes) new (changes ++ cons_option made []) (place + 1)
-      offer_heard flawless room made made_is new new_is = on notes (changes ++ cons_option made []) new (record {
+          → (holds : ℕ) → IfSome (limit_at config gateway.iface) (λ n. holds ≡ held + (if brings this_meeting then 1 else 0))
+          → HeardBefore (heard_by notes) new (changes ++ cons_option made []) holds (place + 1)
+      offer_heard flawless taken room made made_is new new_is holds counted = on notes (changes ++ cons_option made []) holds new (record {
         kept = λ k h. refl;
         here = subst (λ o. Contains (allowed_notes (heard_by notes) place e) o) (sym no_note)
-            (subst (λ l. Contains l None) (sym (allowed-by notes None flawless))
+            (subst (λ l. Contains l None) (sym (allowed-sound notes (λ k h. refl) flawless None taken))
             (none_allowed (would_add (heard_by notes) place e) (held_after (heard_by notes) place) has_room));
         in_order = heard.in_order;
         placed = placed_still;
@@ -234,6 +227,9 @@ module _ (config : Config) (gateway : Gateway) (entries : List Rte) (before : Ta
         changed = ap (λ c. changes ++ cons_option c []) (made_is
             ∙ ap (change named (map_of.get now named)) (sym new_here)
             ∙ ap (λ b. if b then change named (map_of.get now named) (map_of.get new named) else None) (sym (is_offer-by None flawless)));
+        counted = if_counted (limit_at config gateway.iface)
+            (λ grows. grows ∙ ap (λ b. held + cond b 1 0)
+            (sym (ap₂ (λ b o. b && not (is_refusal o)) (would_bring-is notes (λ k h. refl) flawless) no_note ∙ and_true (brings this_meeting)))) counted;
       })
         where
           has_room : would_add (heard_by notes) place e ≡ true → held_after (heard_by notes) place < table_limit
@@ -279,8 +275,8 @@ module _ (config : Config) (gateway : Gateway) (entries : List Rte) (before : Ta
 
         -- an entry with a note changes nothing, whether it is an offer or not
         unchanged : Contains (allowed_notes (heard_by noted_more) place e) (Some kind) → (is_offer e && not (is_refusal (Some kind))) ≡ false
-            → HeardBefore (heard_by noted_more) new changes (place + 1)
-        unchanged allowed unmet = on noted_more changes new (record {
+            → HeardBefore (heard_by noted_more) new changes held (place + 1)
+        unchanged allowed unmet = on noted_more changes held new (record {
           kept = kept;
           here = subst (λ o. Contains (allowed_notes (heard_by noted_more) place e) o) (sym note_is) allowed;
           in_order = subst IsStrictlyIncreasing (sym (map-append (λ (n : Note). n.entry) notes (record { entry = place; kind = kind } ∷ [])))
@@ -291,6 +287,11 @@ module _ (config : Config) (gateway : Gateway) (entries : List Rte) (before : Ta
               ∙ ap (λ b. cond b (adopted gateway (map_of.get now p) (offer_at config gateway.from entries place e)) (map_of.get now p))
               (sym (ap (λ o. (is_offer e && same_prefix named p) && not (is_refusal o)) note_is ∙ unmet_at (is_offer e) (same_prefix named p) (is_refusal (Some kind)) unmet));
           changed = sym (append-nil changes) ∙ ap (λ c. changes ++ cons_option c []) (sym (no_change (is_offer e)));
+          counted = count_stays (would_bring (heard_by noted_more) place e && not (is_refusal (noted_at noted_more place)))
+              (ap (λ o. would_bring (heard_by noted_more) place e && not (is_refusal o)) note_is
+              ∙ brings_none (is_offer e) (not (is_by gateway.iface (route_after (heard_by noted_more) place named)))
+              (is_by gateway.iface (adopted gateway (route_after (heard_by noted_more) place named) (offer_at config gateway.from entries place e)))
+              (is_refusal (Some kind)) unmet);
         })
           where
             unmet_at : (a s r : Bool) → (a && not r) ≡ false → ((a && s) && not r) ≡ false
@@ -298,69 +299,39 @@ module _ (config : Config) (gateway : Gateway) (entries : List Rte) (before : Ta
             unmet_at true false r none = refl
             unmet_at false s r none = refl
 
+            brings_none : (a s u r : Bool) → (a && not r) ≡ false → (a && s && u && not r) ≡ false
+            brings_none true true true r none = none
+            brings_none true true false r none = refl
+            brings_none true false u r none = refl
+            brings_none false s u r none = refl
+
             no_change : (b : Bool) → (if b then change named (map_of.get now named) (map_of.get new named) else None) ≡ None
             no_change true = ap (λ t. change named (map_of.get now named) (map_of.get t named)) same ∙ change-same named (map_of.get now named)
             no_change false = refl
 
-        flaw_heard : (f : Option NoteKind) → flaw e ≡ f → kind ≡ unwrap_or f (refusal_of_new now) → (f ≡ None → IsTrue (adds this_meeting))
-            → HeardBefore (heard_by noted_more) new changes (place + 1)
-        flaw_heard (Some other) flawed kind_is adding = unchanged
-            (subst (λ l. Contains l (Some kind)) (sym (allowed-by noted_more (Some other) flawed)) (0, omega arith, ap (λ k. Some k) (sym kind_is)))
-            (ap (λ b. b && not (is_refusal (Some kind))) (is_offer-by (Some other) flawed))
-        flaw_heard None flawless kind_is adding = unchanged
-            (subst (λ l. Contains l (Some kind)) (sym (allowed-by noted_more None flawless
+        -- a sound entry, by the reason of the interface to refuse it
+        refused_heard : flaw e ≡ None → (r : Option NoteKind) → why ≡ r → kind ≡ unwrap_or r (refusal_of_new now) → (r ≡ None → IsTrue (adds this_meeting))
+            → HeardBefore (heard_by noted_more) new changes held (place + 1)
+        refused_heard flawless (Some other) is_why kind_is adding = unchanged
+            (subst (λ l. Contains l (Some kind)) (sym (allowed-sound noted_more kept flawless (Some other) is_why)) (0, omega arith, ap (λ k. Some k) (sym kind_is)))
+            (ap₂ (λ b r. b && not r) (is_offer-by None flawless)
+            (ap (λ k. is_refusal (Some k)) kind_is
+            ∙ refuses (nat_lt e.metric infinity && not (is_accepted config gateway.iface (prefix_named e))) (brings this_meeting && is_limit_reached (limit_at config gateway.iface) held) other is_why))
+        refused_heard flawless None is_why kind_is adding = unchanged
+            (subst (λ l. Contains l (Some kind)) (sym (allowed-sound noted_more kept flawless None is_why
             ∙ ap₂ (λ b n. if b then (if nat_le table_limit n then Some TableFull ∷ [] else None ∷ Some NoMemory ∷ []) else None ∷ [])
             (would_add-is noted_more kept flawless ∙ adding refl) (held-is noted_more kept)))
             (subst (λ k. Contains (if nat_le table_limit (map_of.len now) then Some TableFull ∷ [] else None ∷ Some NoMemory ∷ []) (Some k)) (sym kind_is)
             (refusal_allowed (nat_le table_limit (map_of.len now)))))
             (ap₂ (λ b r. b && not r) (is_offer-by None flawless) (ap (λ k. is_refusal (Some k)) kind_is ∙ refusal_is (nat_le table_limit (map_of.len now))))
 
-        pub refusal_heard : kind ≡ unwrap_or (flaw e) (refusal_of_new now) → (flaw e ≡ None → IsTrue (adds this_meeting))
-            → HeardBefore (heard_by noted_more) new changes (place + 1)
+        flaw_heard : (f : Option NoteKind) → flaw e ≡ f → kind ≡ unwrap_or f (unwrap_or why (refusal_of_new now)) → (f ≡ None → why ≡ None → IsTrue (adds this_meeting))
+            → HeardBefore (heard_by noted_more) new changes held (place + 1)
+        flaw_heard (Some other) flawed kind_is adding = unchanged
+            (subst (λ l. Contains l (Some kind)) (sym (allowed-by noted_more (Some other) flawed)) (0, omega arith, ap (λ k. Some k) (sym kind_is)))
+            (ap (λ b. b && not (is_refusal (Some kind))) (is_offer-by (Some other) flawed))
+        flaw_heard None flawless kind_is adding = refused_heard flawless why refl kind_is (adding refl)
+
+        pub refusal_heard : kind ≡ unwrap_or (flaw e) (unwrap_or why (refusal_of_new now)) → (flaw e ≡ None → why ≡ None → IsTrue (adds this_meeting))
+            → HeardBefore (heard_by noted_more) new changes held (place + 1)
         refusal_heard kind_is adding = flaw_heard (flaw e) refl kind_is adding
-
--- ---- the next hop
-
-next_hop_from : (config : Config) (source : ℕ) (entries : List Rte) (place : ℕ) (e : Rte) → slice_get entries place ≡ Some e → (b : Bool) → is_next_hop e ≡ b
-    → next_hop_at config source entries (place + 1) ≡ cond b (usable_hop config source (Some e)) (next_hop_at config source entries place)
-next_hop_from config source entries place e is b hop =
-    ap (λ k. usable_hop config source (find is_next_hop (reverse (take k entries)))) (add-one place)
-    ∙ ap (λ es. usable_hop config source (find is_next_hop (reverse es))) (take_push entries place e is)
-    ∙ ap (λ es. usable_hop config source (find is_next_hop es)) (reverse-append (take place entries) (e ∷ []))
-    ∙ ap (λ c. usable_hop config source (cond c (Some e) (find is_next_hop (reverse (take place entries))))) hop
-    ∙ out b
-  where
-    out : (b : Bool) → usable_hop config source (cond b (Some e) (find is_next_hop (reverse (take place entries))))
-        ≡ cond b (usable_hop config source (Some e)) (next_hop_at config source entries place)
-    out true = refl
-    out false = refl
-
--- behind a next hop entry
-pub next_hop_set : (config : Config) (source : ℕ) (entries : List Rte) (place : ℕ) (e : Rte) → slice_get entries place ≡ Some e → is_next_hop e ≡ true
-    → next_hop_at config source entries (place + 1) ≡ usable_hop config source (Some e)
-next_hop_set config source entries place e is hop = next_hop_from config source entries place e is true hop
-
--- behind any other
-pub next_hop_kept : (config : Config) (source : ℕ) (entries : List Rte) (place : ℕ) (e : Rte) → slice_get entries place ≡ Some e → is_next_hop e ≡ false
-    → next_hop_at config source entries (place + 1) ≡ next_hop_at config source entries place
-next_hop_kept config source entries place e is hop = next_hop_from config source entries place e is false hop
-
--- ---- what an iterator has left
-
--- the first of the entries that are left stands at the place
-pub first_left : (entries : List Rte) (place : ℕ) (e : Rte) (rest : List Rte) → drop place entries ≡ e ∷ rest
-    → (slice_get entries place ≡ Some e) × (drop (place + 1) entries ≡ rest) × (place < length entries)
-first_left [] zero e rest left = absurd (cc)
-first_left [] (suc place) e rest left = absurd (cc)
-first_left (x ∷ xs) zero e rest left = (cc, cc, omega arith)
-first_left (x ∷ xs) (suc place) e rest left = let h = first_left xs place e rest left in (h.0, ap (λ k. drop k (x ∷ xs)) (next place) ∙ h.1, omega (arith, h.2))
-  where
-    next : (k : ℕ) → suc k + 1 ≡ suc (k + 1)
-    next k = omega arith
-
--- and where none is left all have been given
-pub none_left : (entries : List Rte) (place : ℕ) → place ≤ length entries → drop place entries ≡ [] → place ≡ length entries
-none_left [] zero fits left = refl
-none_left [] (suc place) fits left = absurd (omega arith)
-none_left (x ∷ xs) zero fits left = absurd (cc)
-none_left (x ∷ xs) (suc place) fits left = ap suc (none_left xs place (omega arith) left)

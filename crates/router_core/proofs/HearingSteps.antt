@@ -16,7 +16,7 @@ use Rattle.route_table.specs.Route.{RouteValue}
 use Rattle.route_table.specs.Table.{Table}
 use Rattle.router_core.specs.Offers.{Offer, offers, offer_at, is_offer, prefix_named}
 use Rattle.router_core.specs.Adoption.{adopted}
-use Rattle.router_core.specs.Hearing.{Hearing, route_after, is_refused, would_add, held_after}
+use Rattle.router_core.specs.Hearing.{Hearing, route_after, is_refused, would_add, held_after, would_bring, brought_after, held_by}
 
 not_below : (n k : ℕ) → k ≤ n → nat_lt n k ≡ false
 not_below n k h = grind (arith, nat_tests)
@@ -139,18 +139,28 @@ take_push [] i x is = absurd (cc)
 take_push (y ∷ xs) zero x is = let same : y ≡ x = cc in ap (λ z. z ∷ []) same
 take_push (y ∷ xs) (suc i) x is = ap (λ rest. y ∷ rest) (take_push xs i x is)
 
+-- some routes, and one more for each of the first entries that pass a test
+counted_more : (n : ℕ) (test : ℕ × Rte → Bool) (entries : List Rte) (place : ℕ) (e : Rte) → slice_get entries place ≡ Some e
+    → n + count_by test (take (place + 1) (enumerate_from 0 entries)) ≡ n + count_by test (take place (enumerate_from 0 entries)) + cond (test (place, e)) 1 0
+counted_more n test entries place e is =
+    ap (λ m. n + m)
+    (ap (λ k. count_by test (take k (enumerate_from 0 entries))) (add-one place)
+    ∙ ap (count_by test) (take_push (enumerate_from 0 entries) place (place, e) here)
+    ∙ fold_push (λ a t. a + cond (test t) 1 0) 0 (take place (enumerate_from 0 entries)) (place, e))
+    ∙ sym (add_assoc n (count_by test (take place (enumerate_from 0 entries))) (cond (test (place, e)) 1 0))
+  where
+    here : slice_get (enumerate_from 0 entries) place ≡ Some (place, e)
+    here = numbered_at 0 entries place e is ∙ ap (λ (m : ℕ). Some (m, e)) (omega arith)
+
 module _ (h : Hearing) where
   held_more : (place : ℕ) (e : Rte) → slice_get h.entries place ≡ Some e
       → held_after h (place + 1) ≡ held_after h place + cond (would_add h place e && not (is_refused h place)) 1 0
-  held_more place e is =
-      ap (λ n. map_of.len h.before + n)
-      (ap (λ k. count_by (λ t. would_add h t.0 t.1 && not (is_refused h t.0)) (take k (enumerate_from 0 h.entries))) (add-one place)
-      ∙ ap (count_by (λ t. would_add h t.0 t.1 && not (is_refused h t.0))) (take_push (enumerate_from 0 h.entries) place (place, e) here)
-      ∙ fold_push (λ a t. a + cond (would_add h t.0 t.1 && not (is_refused h t.0)) 1 0) 0 (take place (enumerate_from 0 h.entries)) (place, e))
-      ∙ sym (add_assoc (map_of.len h.before) (count_by (λ t. would_add h t.0 t.1 && not (is_refused h t.0)) (take place (enumerate_from 0 h.entries))) (cond (would_add h place e && not (is_refused h place)) 1 0))
-    where
-      here : slice_get (enumerate_from 0 h.entries) place ≡ Some (place, e)
-      here = numbered_at 0 h.entries place e is ∙ ap (λ (m : ℕ). Some (m, e)) (omega arith)
+  held_more place e is = counted_more (map_of.len h.before) (λ t. would_add h t.0 t.1 && not (is_refused h t.0)) h.entries place e is
+
+  -- the routes by way of the interface, one entry on
+  pub brought_more : (place : ℕ) (e : Rte) → slice_get h.entries place ≡ Some e
+      → brought_after h (place + 1) ≡ brought_after h place + cond (would_bring h place e && not (is_refused h place)) 1 0
+  brought_more place e is = counted_more (held_by h.gateway.iface h.before) (λ t. would_bring h t.0 t.1 && not (is_refused h t.0)) h.entries place e is
 
   -- a table that has at each prefix what is heard so far, and as many routes as are said to be held
   abbrev pub TableAfter : ℕ → Type 0

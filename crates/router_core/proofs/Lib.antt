@@ -1,6 +1,8 @@
 pub mod Vectors
 pub mod HearingSteps
+mod HearingCases
 pub mod HearingLoop
+mod NextHops
 pub mod NotesKept
 pub mod Replaying
 pub mod Cutting
@@ -28,3 +30,5 @@ pub mod Reasons
 pub mod ReasonVectors
 pub mod OfferedSteps
 mod Renewing
+pub mod NoFilters
+pub mod Counting

@@ -1,5 +1,5 @@
 -- What is heard before a place goes by the notes below it alone: a note at a later entry changes none of it.
-use Rattle.std.proofs.Common.{◌≡◌, ◌≢◌, ℕ, zero, suc, ◌+◌, ◌<◌, ◌≤◌, Bool, true, false, not, ◌&&◌, List, [], ◌∷◌, ◌++◌, take, length, fold, filter, filter_map, find, All, Option, Some, None, is_none, is_some, slice_get, refl, ap, ap₂, sym, ◌∙◌, arith, add-one}
+use Rattle.std.proofs.Common.{◌≡◌, ◌≢◌, ℕ, zero, suc, ◌+◌, ◌<◌, ◌≤◌, Bool, true, false, cond, not, ◌&&◌, List, [], ◌∷◌, ◌++◌, take, length, fold, filter, filter_map, find, All, Option, Some, None, is_none, is_some, slice_get, refl, ap, ap₂, sym, ◌∙◌, arith, add-one}
 use Rattle.std.specs.Prelude.{◌==◌, nat_lt, nat_le, if◌then◌else◌, option_map}
 use Rattle.std.specs.List.{enumerate_from, cons_option}
 use Rattle.std.specs.FinMap as map_of
@@ -14,12 +14,13 @@ use Rattle.route_table.specs.Table.{Table, table_limit}
 use Rattle.router_core.specs.Config.{Config}
 use Rattle.router_core.specs.Offers.{offers, offer_at, is_offer, flaw, prefix_named}
 use Rattle.router_core.specs.Adoption.{Gateway, adopted}
-use Rattle.router_core.specs.Hearing.{Hearing, hearing, is_refusal, is_refused, route_after, would_add, held_after, notes_of_offer, allowed_notes}
+use Rattle.router_core.specs.Hearing.{Hearing, hearing, is_refusal, is_refused, route_after, would_add, would_bring, brought_after, held_after, refusal_at, notes_by_refusal, notes_of_offer, allowed_notes}
+use Rattle.router_core.specs.Filters.{is_by, refusal}
 use Rattle.router_core.specs.Changes.{change, change_at}
 use Rattle.router_core.specs.declared.answer.Note.{Note}
 use Rattle.router_core.specs.declared.answer.NoteKind.{NoteKind}
 use Rattle.router_core.specs.declared.answer.NoteKind.TheVariants.{TableFull, NoMemory}
-use Rattle.router_core.proofs.HearingSteps.{at_place, numbered_at, take_push, table_after, size_after}
+use Rattle.router_core.proofs.HearingSteps.{at_place, brought_more, numbered_at, take_push, table_after, size_after}
 
 -- ---- the note at an entry
 
@@ -87,15 +88,38 @@ module _ (config : Config) (gateway : Gateway) (entries : List Rte) (before : Ta
   would_add-same m n place e same =
       ap (λ r. is_offer e && is_none r && is_some (adopted gateway None (offer_at config gateway.from entries place e))) (route_after-same m n place same (prefix_named e))
 
+  would_bring-same : (m n : List Note) (place : ℕ) (e : Rte) → SameBelow m n place → would_bring (by m) place e ≡ would_bring (by n) place e
+  would_bring-same m n place e same =
+      ap (λ r. is_offer e && not (is_by gateway.iface r) && is_by gateway.iface (adopted gateway r (offer_at config gateway.from entries place e))) (route_after-same m n place same (prefix_named e))
+
+  pub brought_after-same : (m n : List Note) (place : ℕ) → place ≤ length entries → SameBelow m n place → brought_after (by m) place ≡ brought_after (by n) place
+  brought_after-same m n zero fits same = refl
+  brought_after-same m n (suc place) fits same =
+      let entry : (e : Rte) × (slice_get entries place ≡ Some e) = at_place entries place (omega arith) in
+      ap (brought_after (by m)) (sym (add-one place))
+      ∙ brought_more (by m) place entry.0 entry.1
+      ∙ ap₂ (λ k b. k + cond b 1 0)
+      (brought_after-same m n place (omega arith) (λ k h. same k (omega arith)))
+      (ap₂ (λ a b. a && not b) (would_bring-same m n place entry.0 (λ k h. same k (omega arith))) (ap is_refusal (same place (omega arith))))
+      ∙ sym (brought_more (by n) place entry.0 entry.1)
+      ∙ ap (brought_after (by n)) (add-one place)
+
+  refusal_at-same : (m n : List Note) (place : ℕ) (e : Rte) → place ≤ length entries → SameBelow m n place → refusal_at (by m) place e ≡ refusal_at (by n) place e
+  refusal_at-same m n place e fits same = ap₂ (refusal config gateway.iface e) (would_bring-same m n place e same) (brought_after-same m n place fits same)
+
   pub allowed_notes-same : (m n : List Note) (place : ℕ) (e : Rte) → place ≤ length entries → SameBelow m n place
       → allowed_notes (by m) place e ≡ allowed_notes (by n) place e
   allowed_notes-same m n place e fits same = ap (λ l. if is_next_hop e then None ∷ [] else l) (by_flaw (flaw e))
     where
-      by_flaw : (f : Option NoteKind) → notes_of_offer (by m) place e f ≡ notes_of_offer (by n) place e f
-      by_flaw (Some kind) = refl
-      by_flaw None =
+      by_refusal : (f : Option NoteKind) → notes_by_refusal (by m) place e f ≡ notes_by_refusal (by n) place e f
+      by_refusal (Some kind) = refl
+      by_refusal None =
           ap₂ (λ b n. if b then (if nat_le table_limit n then Some TableFull ∷ [] else None ∷ Some NoMemory ∷ []) else None ∷ [])
           (would_add-same m n place e same) (held_after-same m n place fits same)
+
+      by_flaw : (f : Option NoteKind) → notes_of_offer (by m) place e f ≡ notes_of_offer (by n) place e f
+      by_flaw (Some kind) = refl
+      by_flaw None = ap (notes_by_refusal (by m) place e) (refusal_at-same m n place e fits same) ∙ by_refusal (refusal_at (by n) place e)
 
   change_at-same : (m n : List Note) (place : ℕ) (e : Rte) → SameBelow m n (place + 1) → change_at (by m) place e ≡ change_at (by n) place e
   change_at-same m n place e same =

@@ -33,9 +33,11 @@ local n = 0xfe80_0000_0000_0000_0000_0000_0000_0000 + n
 abbrev pub router_a : Config
 router_a =
     record {
-      interfaces = record { addr = local 1; cost = 1; mtu = 1280 } ∷ record { addr = local 0x1_0001; cost = 1; mtu = 1500 } ∷ [];
+      interfaces = record { addr = local 1; cost = 1; mtu = 1280; zone = 0 } ∷ record { addr = local 0x1_0001; cost = 1; mtu = 1500; zone = 0 } ∷ [];
       prefixes = [];
       quiet = false;
+      filters = [];
+      limits = [];
     }
 
 -- 2001:db8::/32, and an entry that names it with bits past the length

@@ -9,16 +9,25 @@ use Rattle.route_table.specs.Route.{infinity}
 use Rattle.router_core.specs.declared.config.ConfigRefused.{ConfigRefused}
 use Rattle.router_core.specs.declared.config.ConfigRefused.TheVariants.{NoInterface, TooManyInterfaces, AddressNotLinkLocal, AddressTwice, BadCost, BadMtu, TooManyPrefixes, PrefixTwice, PrefixNotAllowed}
 use Rattle.router_core.specs.declared.config.Interface.{Interface}
+use Rattle.router_core.specs.declared.filter.Filter.{Filter}
+use Rattle.router_core.specs.declared.filter.Limit.{Limit}
 
 -- the configuration of a router
 pub record Config : Type 0 where
   pub interfaces : List Interface
   pub prefixes : List (Prefix6 × ℕ)  -- with their tags
   pub quiet : Bool
+  pub filters : List Filter
+  pub limits : List Limit
 
 -- a configuration of these parts; a quiet router is passive
+abbrev pub config_with : List Interface → List (Prefix6 × ℕ) → Bool → List Filter → List Limit → Config
+config_with interfaces prefixes quiet filters limits =
+    record { interfaces = interfaces; prefixes = prefixes; quiet = quiet; filters = filters; limits = limits }
+
+-- the same without filters and limits
 abbrev pub config : List Interface → List (Prefix6 × ℕ) → Bool → Config
-config interfaces prefixes quiet = record { interfaces = interfaces; prefixes = prefixes; quiet = quiet }
+config interfaces prefixes quiet = config_with interfaces prefixes quiet [] []
 
 -- the cost of an interface in hops; over one that is not there nothing is reachable
 abbrev pub cost_at : Config → ℕ → ℕ
@@ -28,21 +37,29 @@ cost_at config iface = unwrap_or (option_map (λ i. i.cost) (slice_get config.in
 abbrev pub mtu_at : Config → ℕ → ℕ
 mtu_at config iface = unwrap_or (option_map (λ i. i.mtu) (slice_get config.interfaces iface)) 1280
 
--- whether an interface has the address
-abbrev pub has_address : List Interface → ℕ → Bool
-has_address interfaces a = list_any (λ i. i.addr == a) interfaces
+-- whether an interface of the zone has the address (RFC 4007, 6)
+abbrev pub has_address : List Interface → ℕ → ℕ → Bool
+has_address interfaces zone a = list_any (λ i. i.zone == zone && i.addr == a) interfaces
+
+-- the zone of an interface
+abbrev pub zone_at : Config → ℕ → ℕ
+zone_at config iface = unwrap_or (option_map (λ i. i.zone) (slice_get config.interfaces iface)) 0
 
 -- whether the prefix is owned, with any tag
 abbrev pub has_prefix : List (Prefix6 × ℕ) → Prefix6 → Bool
 has_prefix owned p = list_any (λ t. same_prefix t.0 p) owned
 
--- whether the address is that of one of the router's interfaces
-abbrev pub is_own_address : Config → ℕ → Bool
-is_own_address config a = has_address config.interfaces a
+-- whether the address is the router's own on the link of an interface: that of an interface in its zone
+abbrev pub is_own_address : Config → ℕ → ℕ → Bool
+is_own_address config iface a = has_address config.interfaces (zone_at config iface) a
+
+-- whether the address is that of an interface, on whatever link
+abbrev pub is_address_of_one : Config → ℕ → Bool
+is_address_of_one config a = list_any (λ i. i.addr == a) config.interfaces
 
 -- the most interfaces of a router
 abbrev pub interface_limit : ℕ
-interface_limit = 16
+interface_limit = 256
 
 -- the most prefixes that a router owns
 abbrev pub owned_limit : ℕ
@@ -62,7 +79,7 @@ is_usable_mtu mtu = nat_le 1280 mtu && nat_le mtu 65535
 abbrev pub interface_reasons : List Interface → Interface → List (Bool × ConfigRefused)
 interface_reasons earlier i =
     (not (is_link_local i.addr), AddressNotLinkLocal)
-    ∷ (has_address earlier i.addr, AddressTwice)
+    ∷ (has_address earlier i.zone i.addr, AddressTwice)
     ∷ (not (is_usable_cost i.cost), BadCost)
     ∷ (not (is_usable_mtu i.mtu), BadMtu)
     ∷ []

@@ -15,7 +15,7 @@ ripng_port = 521
 abbrev pub neighbor_reasons : Config → Received → List (Bool × Fault)
 neighbor_reasons config x =
     (not (is_link_local x.source), NotLinkLocal)
-    ∷ (is_own_address config x.source, OwnAddress)
+    ∷ (is_own_address config x.iface x.source, OwnAddress)
     ∷ (x.to_group && not (x.hop_limit == 255), HopLimit)
     ∷ []
 

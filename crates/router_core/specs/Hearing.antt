@@ -9,11 +9,13 @@ use Rattle.ripng_wire.specs.Layout.{is_next_hop}
 use Rattle.route_table.specs.Route.{RouteValue}
 use Rattle.route_table.specs.Table.{Table, table_limit}
 use Rattle.router_core.specs.Config.{Config}
+use Rattle.router_core.specs.Filters.{is_by, refusal}
+use Rattle.router_core.specs.Output.{is_learned_on}
 use Rattle.router_core.specs.Offers.{offers, offer_at, is_offer, flaw, prefix_named}
 use Rattle.router_core.specs.Adoption.{Gateway, adopted}
 use Rattle.router_core.specs.declared.answer.Note.{Note}
 use Rattle.router_core.specs.declared.answer.NoteKind.{NoteKind}
-use Rattle.router_core.specs.declared.answer.NoteKind.TheVariants.{TableFull, NoMemory}
+use Rattle.router_core.specs.declared.answer.NoteKind.TheVariants.{TableFull, NoMemory, NotAccepted, LimitReached}
 
 -- the processing of a Response: its entries and gateway, the table before, and the notes that were made. The notes are part of
 -- this since nothing else says for which new routes memory ran out; `Heard` says which notes are allowed
@@ -29,17 +31,19 @@ abbrev pub hearing : Config → Gateway → List Rte → Table → List Note →
 hearing config gateway entries before notes =
     record { config = config; gateway = gateway; entries = entries; before = before; notes = notes }
 
--- the note says that a new route had no room
+-- the note says that an offer was refused: a new route had no room, or the interface does not take the route
 abbrev pub is_refusal : Option NoteKind → Bool
 is_refusal (Some TableFull) = true
 is_refusal (Some NoMemory) = true
+is_refusal (Some NotAccepted) = true
+is_refusal (Some LimitReached) = true
 is_refusal _ = false
 
 -- the note on the entry at a place
 abbrev pub note_at : Hearing → ℕ → Option NoteKind
 note_at h place = option_map (λ n. n.kind) (find (λ n. n.entry == place) h.notes)
 
--- the new route of the entry at a place had no room
+-- the offer of the entry at a place was refused
 abbrev pub is_refused : Hearing → ℕ → Bool
 is_refused h place = is_refusal (note_at h place)
 
@@ -61,14 +65,39 @@ held_after h place =
     map_of.len h.before
     + count_by (λ t. would_add h t.0 t.1 && not (is_refused h t.0)) (take place (enumerate_from 0 h.entries))
 
+-- the entry would bring a route by way of the interface to a prefix that has none by it
+abbrev pub would_bring : Hearing → ℕ → Rte → Bool
+would_bring h place e =
+    is_offer e && not (is_by h.gateway.iface (route_after h place (prefix_named e)))
+    && is_by h.gateway.iface (adopted h.gateway (route_after h place (prefix_named e)) (offer_at h.config h.gateway.from h.entries place e))
+
+-- how many routes a table holds by way of an interface
+abbrev pub held_by : ℕ → Table → ℕ
+held_by iface table = count_by (λ t. is_learned_on iface t.1.origin) (map_of.entries table)
+
+-- how many it holds by way of the interface once the entries before a place are processed
+abbrev pub brought_after : Hearing → ℕ → ℕ
+brought_after h place =
+    held_by h.gateway.iface h.before
+    + count_by (λ t. would_bring h t.0 t.1 && not (is_refused h t.0)) (take place (enumerate_from 0 h.entries))
+
+-- why the interface refuses the offer of an entry, if it does
+abbrev pub refusal_at : Hearing → ℕ → Rte → Option NoteKind
+refusal_at h place e = refusal h.config h.gateway.iface e (would_bring h place e) (brought_after h place)
+
 -- the notes that are allowed on a new route
 abbrev pub notes_of_new : Hearing → ℕ → List (Option NoteKind)
 notes_of_new h place = if nat_le table_limit (held_after h place) then Some TableFull ∷ [] else None ∷ Some NoMemory ∷ []
 
+-- the notes that are allowed on a sound offer, by the reason of the interface to refuse it
+abbrev pub notes_by_refusal : Hearing → ℕ → Rte → Option NoteKind → List (Option NoteKind)
+notes_by_refusal h place e (Some kind) = Some kind ∷ []
+notes_by_refusal h place e None = if would_add h place e then notes_of_new h place else None ∷ []
+
 -- the notes that are allowed on an offer, by the reason to skip it
 abbrev pub notes_of_offer : Hearing → ℕ → Rte → Option NoteKind → List (Option NoteKind)
 notes_of_offer h place e (Some kind) = Some kind ∷ []
-notes_of_offer h place e None = if would_add h place e then notes_of_new h place else None ∷ []
+notes_of_offer h place e None = notes_by_refusal h place e (refusal_at h place e)
 
 -- the notes that are allowed on an entry
 abbrev pub allowed_notes : Hearing → ℕ → Rte → List (Option NoteKind)

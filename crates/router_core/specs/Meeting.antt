@@ -1,5 +1,5 @@
 -- What one offer does to a table (RFC 2080, 2.4.2).
-use Rattle.std.specs.Prelude.{ℕ, nat_le, Bool, ◌&&◌, if◌then◌else◌, Option, is_none, is_some}
+use Rattle.std.specs.Prelude.{ℕ, nat_le, Bool, ◌&&◌, not, if◌then◌else◌, Option, Some, None, is_none, is_some}
 use Rattle.std.specs.FinMap as map_of
 use Rattle.prefix6.specs.Prefix.{Prefix6}
 use Rattle.fib.specs.declared.change.RouteChange.{RouteChange}
@@ -8,9 +8,10 @@ use Rattle.route_table.specs.Route.{RouteValue}
 use Rattle.route_table.specs.Table.{Table, table_limit, with_value}
 use Rattle.router_core.specs.Adoption.{Gateway, adopted}
 use Rattle.router_core.specs.Changes.{change}
+use Rattle.router_core.specs.Filters.{is_by, is_limit_reached}
 use Rattle.router_core.specs.Offers.{Offer, prefix_named}
 use Rattle.router_core.specs.declared.answer.NoteKind.{NoteKind}
-use Rattle.router_core.specs.declared.answer.NoteKind.TheVariants.{TableFull, NoMemory}
+use Rattle.router_core.specs.declared.answer.NoteKind.TheVariants.{TableFull, NoMemory, LimitReached}
 
 -- an offer for a prefix, from a gateway, and the table before it
 pub record Meeting : Type 0 where
@@ -47,6 +48,14 @@ change_met m = change m.prefix (held m) (met m)
 -- the offer is for a first route to the prefix
 abbrev pub adds : Meeting → Bool
 adds m = is_none (held m) && is_some (met m)
+
+-- the offer brings a route by way of the interface to a prefix that has none by it
+abbrev pub brings : Meeting → Bool
+brings m = not (is_by m.gateway.iface (held m)) && is_by m.gateway.iface (met m)
+
+-- why the limit of the interface refuses the offer, if it does: it would bring a route more, and as many are held as may be
+abbrev pub limit_refusal : Meeting → Option ℕ → ℕ → Option NoteKind
+limit_refusal m limit held = if brings m && is_limit_reached limit held then Some LimitReached else None
 
 -- why a first route cannot be added: the table is full, or memory ran out
 abbrev pub refusal_of_new : Table → NoteKind

@@ -7,9 +7,9 @@ use Rattle.ripng_wire.specs.declared.rte.Rte.{Rte}
 use Rattle.ripng_wire.specs.Layout.{is_next_hop}
 use Rattle.ripng_wire.specs.Wire.{first_reason}
 use Rattle.route_table.specs.Route.{infinity}
-use Rattle.router_core.specs.Config.{Config, is_own_address}
+use Rattle.router_core.specs.Config.{Config, is_address_of_one}
 use Rattle.router_core.specs.declared.answer.NoteKind.{NoteKind}
-use Rattle.router_core.specs.declared.answer.NoteKind.TheVariants.{BadLength, BadPrefix, BadMetric, TableFull, NoMemory}
+use Rattle.router_core.specs.declared.answer.NoteKind.TheVariants.{BadLength, BadPrefix, BadMetric, TableFull, NoMemory, NotAccepted, LimitReached}
 
 -- the number of a note, as it is printed
 abbrev pub note_number : NoteKind → ℕ
@@ -18,6 +18,8 @@ note_number BadPrefix = 21
 note_number BadMetric = 22
 note_number TableFull = 23
 note_number NoMemory = 24
+note_number NotAccepted = 25
+note_number LimitReached = 26
 
 -- the name of a note, as the variant is spelled
 abbrev pub note_name : NoteKind → List ℕ
@@ -26,6 +28,8 @@ note_name BadPrefix = codes "BadPrefix"
 note_name BadMetric = codes "BadMetric"
 note_name TableFull = codes "TableFull"
 note_name NoMemory = codes "NoMemory"
+note_name NotAccepted = codes "NotAccepted"
+note_name LimitReached = codes "LimitReached"
 
 -- a note as it is printed: `NUMBER NAME`
 abbrev pub note_text : NoteKind → List ℕ
@@ -54,7 +58,7 @@ is_offer e = not (is_next_hop e) && is_none (flaw e)
 -- the next hop that a next hop entry sets: its address if it can be a neighbor's, and otherwise the source (RFC 2080, 2.1.1)
 abbrev pub usable_hop : Config → ℕ → Option Rte → ℕ
 usable_hop config source None = source
-usable_hop config source (Some e) = if is_link_local e.addr && not (is_own_address config e.addr) then e.addr else source
+usable_hop config source (Some e) = if is_link_local e.addr && not (is_address_of_one config e.addr) then e.addr else source
 
 -- the next hop of the entry at a place: the last next hop entry before it sets it (RFC 2080, 2.1.1)
 abbrev pub next_hop_at : Config → ℕ → List Rte → ℕ → ℕ

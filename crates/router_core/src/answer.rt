@@ -46,10 +46,14 @@ pub enum NoteKind {
     TableFull = 23,
     /// A new prefix, and memory for its route ran out. The next update offers it again.
     NoMemory = 24,
+    /// The filters of the interface do not take its prefix (`Filter`).
+    NotAccepted = 25,
+    /// The interface has a limit, and the table holds as many routes by way of it (`Limit`).
+    LimitReached = 26,
 }
 
 impl NoteKind {
-    /// The number of the note, 20 to 24.
+    /// The number of the note, 20 to 26.
     pub fn number(self) -> u8
         ensures { result ≡ note_number self }
     {
@@ -66,6 +70,8 @@ impl NoteKind {
             NoteKind::BadMetric => "BadMetric",
             NoteKind::TableFull => "TableFull",
             NoteKind::NoMemory => "NoMemory",
+            NoteKind::NotAccepted => "NotAccepted",
+            NoteKind::LimitReached => "LimitReached",
         }
     }
 }

@@ -1,8 +1,9 @@
 //! The configuration of a router: its interfaces, the prefixes that it owns, and whether it is passive.
 
 ghost use Rattle.std.specs.Prelude.{◌≡◌, ◌<◌, true, false, not, All, Bool, IfOk, OnErr, OnOk, Some, length};
-ghost use Rattle.router_core.specs.Common.{result_err, IsPrefix, is_routable, same_prefix, first_reason, IsConfig, config, config_fault, reasons_of_each, interface_reasons, prefix_reasons, is_own_address, has_address, has_prefix, is_usable_cost, is_usable_mtu, config_refused_text, reconfigured_config, Config};
+ghost use Rattle.router_core.specs.Common.{result_err, IsPrefix, is_routable, same_prefix, first_reason, IsConfig, config, config_fault, reasons_of_each, interface_reasons, prefix_reasons, is_own_address, is_address_of_one, has_address, has_prefix, is_usable_cost, is_usable_mtu, config_refused_text, reconfigured_config, Config, config_with, is_accepted, limit_at};
 
+use crate::filter::{Filter, Limit, accepts_named_alone, is_accepted_by, is_rejected_by};
 use crate::reconfiguring::Change;
 use prefix6::{Addr6, Prefix};
 use route_table::INFINITY;
@@ -19,10 +20,13 @@ pub struct Interface {
     pub cost: u8,
     /// The MTU of its link, 1,280 to 65,535 bytes: it limits the entries of a datagram (RFC 2080, section 2.1).
     pub mtu: u32,
+    /// The zone of its link, any number (RFC 4007, section 6): a link-local address means something in its zone alone. Interfaces to one
+    /// link have one zone. Where each address of a router is another, all zones may be 0.
+    pub zone: u16,
 }
 
 /// The most interfaces of a router.
-pub const INTERFACE_LIMIT: usize = 16;
+pub const INTERFACE_LIMIT: usize = 256;
 
 /// The least MTU of an IPv6 link, in bytes (RFC 8200, section 5).
 pub const LEAST_MTU: u32 = 1_280;
@@ -44,7 +48,8 @@ pub enum ConfigRefused {
     TooManyInterfaces,
     /// The address of an interface is not link-local: give the interface's own address of FE80::/10, not a global one.
     AddressNotLinkLocal,
-    /// The address of an interface is that of an earlier one. VLANs of one card often share theirs: give one another.
+    /// The address of an interface is that of an earlier one of its zone. VLANs of one card often share theirs: give them zones of
+    /// their own, or one another address.
     AddressTwice,
     /// The cost of an interface is not 1 to 15 hops: at 16 nothing would be reachable over it.
     BadCost,
@@ -83,29 +88,23 @@ pub struct RouterConfig {
     interfaces: Vec<Interface>,
     prefixes: Vec<(Prefix, u16)>,
     quiet: bool,
+    filters: Vec<Filter>,
+    limits: Vec<Limit>,
 }
 
 impl Model for RouterConfig {
     ghost Value = { Config };
 
-    ghost view = { λ c. record {
-      interfaces = c.interfaces.items;
-      prefixes = c.prefixes.items;
-      quiet = c.quiet;
-    } };
+    ghost view = { λ c. config_with c.interfaces.items c.prefixes.items c.quiet c.filters.items c.limits.items };
 
-    ghost invariant = { λ c. IsConfig (record {
-      interfaces = c.interfaces.items;
-      prefixes = c.prefixes.items;
-      quiet = c.quiet;
-    }) };
+    ghost invariant = { λ c. IsConfig (config_with c.interfaces.items c.prefixes.items c.quiet c.filters.items c.limits.items) };
 }
 
-/// Whether one of the interfaces has the address.
-fn has_address(interfaces: &[Interface], addr: Addr6) -> bool
-    ensures { result ≡ has_address interfaces.now addr }
+/// Whether one of the interfaces of a zone has the address.
+fn has_address(interfaces: &[Interface], zone: u16, addr: Addr6) -> bool
+    ensures { result ≡ has_address interfaces.now zone addr }
 {
-    interfaces.iter().any(|i| i.addr == addr)
+    interfaces.iter().any(|i| i.zone == zone && i.addr == addr)
 }
 
 /// Whether the prefix is one of those that are owned.
@@ -140,8 +139,8 @@ fn check_interface(earlier: &[Interface], interface: &Interface) -> Result<(), C
     // Updates and Requests are sent from a link-local address (RFC 2080, section 2.5.2).
     if !interface.addr.is_link_local() {
         Err(ConfigRefused::AddressNotLinkLocal)
-    } else if has_address(earlier, interface.addr) {
-        // One address on two interfaces would make a neighbor's datagram look like the router's own (section 2.4.2).
+    } else if has_address(earlier, interface.zone, interface.addr) {
+        // One address on two interfaces of a zone would make a neighbor's datagram look like the router's own (section 2.4.2).
         Err(ConfigRefused::AddressTwice)
     } else if !is_usable_cost(interface.cost) {
         // A cost is a metric, below infinity (section 2.1). With 0 a loop would not count up.
@@ -226,11 +225,28 @@ impl RouterConfig {
         ensures lawful { IfOk result IsConfig }
     {
         check_lists(&interfaces, &prefixes)?;
+        let alloc = *interfaces.allocator();
         Ok(RouterConfig {
             interfaces,
             prefixes,
             quiet: is_quiet,
+            filters: Vec::new(alloc),
+            limits: Vec::new(alloc),
         })
+    }
+
+    /// The same configuration with these filters and limits in place of those that it had. Takes no memory.
+    pub fn filtered(self, filters: Vec<Filter>, limits: Vec<Limit>) -> RouterConfig
+        ensures value { result ≡ config_with self.interfaces self.prefixes self.quiet filters.items limits.items }
+        ensures lawful { IsConfig result }
+    {
+        RouterConfig {
+            interfaces: self.interfaces,
+            prefixes: self.prefixes,
+            quiet: self.quiet,
+            filters,
+            limits,
+        }
     }
 
     /// The interfaces, numbered from 0.
@@ -256,11 +272,53 @@ impl RouterConfig {
         self.quiet
     }
 
-    /// Whether the address is that of one of the router's interfaces.
-    pub fn is_own_address(&self, addr: Addr6) -> bool
-        ensures { result ≡ is_own_address self.now addr }
+    /// The filters of all interfaces.
+    pub fn filters(&self) -> &[Filter]
+        ensures { result.now ≡ self.now.filters }
     {
-        has_address(&self.interfaces, addr)
+        &self.filters
+    }
+
+    /// The limits of all interfaces.
+    pub fn limits(&self) -> &[Limit]
+        ensures { result.now ≡ self.now.limits }
+    {
+        &self.limits
+    }
+
+    /// Whether an interface takes routes to the prefix: no filter of it rejects the prefix, and one accepts it if there are any that
+    /// accept.
+    pub fn is_accepted(&self, iface: usize, prefix: Prefix) -> bool
+        ensures { result ≡ is_accepted self.now iface prefix }
+    {
+        !is_rejected_by(&self.filters, iface, prefix)
+            && (!accepts_named_alone(&self.filters, iface)
+                || is_accepted_by(&self.filters, iface, prefix))
+    }
+
+    /// The most routes that the table may hold by way of an interface, if it has a limit: the first that is given for it.
+    pub fn limit_at(&self, iface: usize) -> Option<usize>
+        ensures { result ≡ limit_at self.now iface }
+    {
+        self.limits
+            .iter()
+            .find(|l| l.iface == iface)
+            .map(|l| l.routes)
+    }
+
+    /// Whether the address is the router's own on the link of an interface: that of an interface in its zone.
+    pub fn is_own_address(&self, iface: usize, addr: Addr6) -> bool
+        ensures { result ≡ is_own_address self.now iface addr }
+    {
+        let zone = self.interfaces.get(iface).map_or(0, |i| i.zone);
+        has_address(&self.interfaces, zone, addr)
+    }
+
+    /// Whether the address is that of an interface, on whatever link.
+    pub fn is_address_of_one(&self, addr: Addr6) -> bool
+        ensures { result ≡ is_address_of_one self.now addr }
+    {
+        self.interfaces.iter().any(|i| i.addr == addr)
     }
 
     /// Whether the prefix is owned, with any tag.

@@ -38,8 +38,8 @@ pub fn usable_hop(config: &RouterConfig, source: Addr6, entry: &Rte) -> Addr6
 {
     let addr = Addr6::from_bits(entry.addr);
     // A next hop that is not link-local counts as `::`, which means the sender of the Response (RFC 2080, section 2.1.1). Nor
-    // does a router forward to itself.
-    if addr.is_link_local() && !config.is_own_address(addr) {
+    // does a router forward to itself. A neighbor whose address is the router's own on another link is reached by way of the sender.
+    if addr.is_link_local() && !config.is_address_of_one(addr) {
         addr
     } else {
         source

@@ -16,7 +16,7 @@ fn check_neighbor(config: &RouterConfig, arrival: &Arrival<'_>) -> Result<(), Fa
     if !arrival.source.is_link_local() {
         // A valid neighbor sends from a link-local address: it becomes the next hop of its routes (section 2.4.2).
         Err(Fault::NotLinkLocal)
-    } else if config.is_own_address(arrival.source) {
+    } else if config.is_own_address(arrival.iface, arrival.source) {
         // A router may receive its own multicasts. Processing them as news would confuse it, so they are ignored (2.4.2).
         Err(Fault::OwnAddress)
     } else if arrival.to_group && arrival.hop_limit != MAX_HOP_LIMIT {

@@ -1,8 +1,8 @@
 //! A Response is processed: its entries in order, each against the routes that the entries before it left (RFC 2080,
 //! section 2.4.2). A bad entry is skipped and noted, and the next one is processed.
 
-ghost use Rattle.std.specs.Prelude.{◌≡◌, ◌<◌, ◌≤◌, ◌↔◌, [], IsTrue, IsSome, None, false, unwrap_or, IfOk, IfErr, OnOk, OnErr, length};
-ghost use Rattle.router_core.specs.Common.{vec_capacity, table_limit, changes_of_hearing, Heard, hearing, meeting, entry_meeting, table_met, change_met, adds, refusal_of_new, flaw};
+ghost use Rattle.std.specs.Prelude.{◌≡◌, ◌+◌, ◌<◌, ◌≤◌, ◌↔◌, [], if◌then◌else◌, IsTrue, IsSome, None, false, unwrap_or, IfOk, IfErr, IfSome, OnOk, OnErr, length};
+ghost use Rattle.router_core.specs.Common.{vec_capacity, table_limit, changes_of_hearing, Heard, hearing, meeting, entry_meeting, table_met, change_met, adds, brings, refusal_of_new, flaw, limit_at, limit_refusal, refusal};
 ghost use Rattle.std.specs.FinMap as map_of;
 
 use crate::adopt::{Gateway, Offer};
@@ -10,10 +10,11 @@ use crate::answer::{Note, NoteKind};
 use crate::config::RouterConfig;
 use crate::entries::{judge, usable_hop};
 use crate::forwarding::{change, change_to, forward};
+use crate::quota::Quota;
 use fib::RouteChange;
 use prefix6::{Addr6, Prefix};
 use ripng_wire::{NEXT_HOP_METRIC, Rte, Rtes};
-use route_table::{AddRefused, Route, RouteStore};
+use route_table::{AddRefused, INFINITY, Route, RouteStore};
 
 /// Adds a route to a prefix that has none.
 ///
@@ -106,31 +107,79 @@ fn meet<S: RouteStore>(
     }
 }
 
+/// One offer that the filters let pass is processed within the quota of its interface: the change of the forwarding entry, or why the
+/// offer is skipped.
+fn meet_within<S: RouteStore>(
+    store: &mut S,
+    gateway: &Gateway,
+    quota: &mut Quota,
+    prefix: Prefix,
+    offer: &Offer,
+) -> Result<Option<RouteChange>, NoteKind>
+    ensures within { OnOk result (limit_refusal (meeting gateway.now offer.now prefix (S.table store.old)) quota.old.limit quota.old.held ≡ None) }
+    ensures table { OnOk result (S.table store.new ≡ table_met (meeting gateway.now offer.now prefix (S.table store.old))) }
+    ensures change { IfOk result (λ c. c ≡ change_met (meeting gateway.now offer.now prefix (S.table store.old))) }
+    ensures room { OnOk result (IsTrue (adds (meeting gateway.now offer.now prefix (S.table store.old)))
+        → map_of.len (S.table store.old) < table_limit) }
+    ensures kept { OnErr result (S.table store.new ≡ S.table store.old) }
+    ensures refusal { IfErr result (λ kind. kind ≡ unwrap_or (limit_refusal (meeting gateway.now offer.now prefix (S.table store.old)) quota.old.limit quota.old.held)
+        (refusal_of_new (S.table store.old))) }
+    ensures new { OnErr result (limit_refusal (meeting gateway.now offer.now prefix (S.table store.old)) quota.old.limit quota.old.held ≡ None
+        → IsTrue (adds (meeting gateway.now offer.now prefix (S.table store.old)))) }
+    ensures limit { quota.new.limit ≡ quota.old.limit }
+    ensures counted { OnOk result (IfSome quota.old.limit (λ n.
+        quota.new.held ≡ quota.old.held + (if brings (meeting gateway.now offer.now prefix (S.table store.old)) then 1 else 0))) }
+    ensures uncounted { OnErr result (quota.new ≡ quota.old) }
+{
+    let is_more = quota.admit(store, gateway, prefix, offer)?;
+    let change = meet(store, gateway, prefix, offer)?;
+    if is_more {
+        quota.count();
+    }
+    Ok(change)
+}
+
 /// One route entry is processed: the change of the forwarding entry, or why the entry is skipped.
 fn hear_entry<S: RouteStore>(
     store: &mut S,
     gateway: &Gateway,
+    config: &RouterConfig,
+    quota: &mut Quota,
     entry: &Rte,
     next_hop: Addr6,
     place: usize,
 ) -> Result<Option<RouteChange>, NoteKind>
+    requires { quota.old.limit ≡ limit_at config.now gateway.now.iface }
     ensures sound { OnOk result (flaw entry.now ≡ None) }
+    ensures taken { OnOk result (refusal config.now gateway.now.iface entry.now (brings (entry_meeting gateway.now entry.now next_hop place (S.table store.old))) quota.old.held ≡ None) }
     ensures table { OnOk result (S.table store.new ≡ table_met (entry_meeting gateway.now entry.now next_hop place (S.table store.old))) }
     ensures change { IfOk result (λ c. c ≡ change_met (entry_meeting gateway.now entry.now next_hop place (S.table store.old))) }
     ensures room { OnOk result (IsTrue (adds (entry_meeting gateway.now entry.now next_hop place (S.table store.old)))
         → map_of.len (S.table store.old) < table_limit) }
     ensures kept { OnErr result (S.table store.new ≡ S.table store.old) }
-    ensures refusal { IfErr result (λ kind. kind ≡ unwrap_or (flaw entry.now) (refusal_of_new (S.table store.old))) }
-    ensures new { OnErr result (flaw entry.now ≡ None → IsTrue (adds (entry_meeting gateway.now entry.now next_hop place (S.table store.old)))) }
+    ensures refusal { IfErr result (λ kind. kind ≡ unwrap_or (flaw entry.now) (unwrap_or
+        (refusal config.now gateway.now.iface entry.now (brings (entry_meeting gateway.now entry.now next_hop place (S.table store.old))) quota.old.held)
+        (refusal_of_new (S.table store.old)))) }
+    ensures new { OnErr result (flaw entry.now ≡ None
+        → refusal config.now gateway.now.iface entry.now (brings (entry_meeting gateway.now entry.now next_hop place (S.table store.old))) quota.old.held ≡ None
+        → IsTrue (adds (entry_meeting gateway.now entry.now next_hop place (S.table store.old)))) }
+    ensures limit { quota.new.limit ≡ quota.old.limit }
+    ensures counted { OnOk result (IfSome quota.old.limit (λ n.
+        quota.new.held ≡ quota.old.held + (if brings (entry_meeting gateway.now entry.now next_hop place (S.table store.old)) then 1 else 0))) }
+    ensures uncounted { OnErr result (quota.new ≡ quota.old) }
 {
     let prefix = judge(entry)?;
+    // With metric 16 the neighbor withdraws a route, and no filter keeps that out.
+    if entry.metric < INFINITY && !config.is_accepted(gateway.iface, prefix) {
+        return Err(NoteKind::NotAccepted);
+    }
     let offer = Offer {
         metric: entry.metric,
         tag: entry.tag,
         next_hop,
         place,
     };
-    meet(store, gateway, prefix, &offer)
+    meet_within(store, gateway, quota, prefix, &offer)
 }
 
 /// Processes all entries of a Response, in order. The two vectors have room for a note and for a change of each, so no memory is
@@ -151,13 +200,14 @@ pub fn hear<S: RouteStore>(
     ensures changed { changes.new.items ≡ changes_of_hearing (hearing config.now gateway.now entries.entry (S.table store.old) notes.new.items) }
 {
     let mut next_hop = gateway.from;
+    let mut quota = Quota::new(store, config, gateway.iface);
     for (place, entry) in entries.enumerate() {
         // Metric 255 sets the next hop of the entries that follow, up to the next such entry (RFC 2080, section 2.1.1).
         if entry.metric == NEXT_HOP_METRIC {
             next_hop = usable_hop(config, gateway.from, &entry);
             continue;
         }
-        match hear_entry(store, gateway, &entry, next_hop, place) {
+        match hear_entry(store, gateway, config, &mut quota, &entry, next_hop, place) {
             Ok(None) => {}
             Ok(Some(change)) => changes.push_reserved(change),
             // An entry that fails a test is ignored, and the next one is processed (section 2.4.2).

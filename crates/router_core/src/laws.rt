@@ -1,7 +1,7 @@
 //! Lemmas on the steps of a router. Each is the contract of an empty function: it follows from the definitions alone.
 
-ghost use Rattle.std.specs.Prelude.{◌≡◌, ℕ, ◌+◌, ◌<◌, ◌≤◌, List, Option, length, flat_map, slice_get, Some};
-ghost use Rattle.router_core.specs.Common.{Replays, Prefix6, Rte, RouteValue, Table, Gateway, adopted, by_reason, reason, forwards, Config, Hearing, route_after, held_after, State, Happening, Moves, Starts, forwards_before, Offer, pieces, OwnsOnce, HoldsOwned, Answer};
+ghost use Rattle.std.specs.Prelude.{◌≡◌, ℕ, ◌+◌, ◌<◌, ◌≤◌, List, [], Option, length, flat_map, slice_get, Some, None};
+ghost use Rattle.router_core.specs.Common.{Replays, Prefix6, Rte, RouteValue, Table, Gateway, adopted, by_reason, reason, forwards, Config, Hearing, Heard, route_after, held_after, held_by, brought_after, refusal_at, limit_at, State, Happening, Moves, Starts, forwards_before, Offer, pieces, OwnsOnce, HoldsOwned, Answer};
 ghost use Rattle.std.specs.FinMap as map_of;
 
 /// The changes of each answer, replayed onto the forwarding table before it, give that after it.
@@ -20,6 +20,23 @@ pub fn adopted_by_row()
 pub fn held_is_size()
     ensures { (h : Hearing) (place : ℕ) → place ≤ length h.entries
         → (t : Table) → ((p : Prefix6) → map_of.get t p ≡ route_after h place p) → map_of.len t ≡ held_after h place }
+{}
+
+/// Such a table has as many routes by way of the interface as `brought_after` counts.
+pub fn brought_is_held()
+    ensures { (h : Hearing) (place : ℕ) → place ≤ length h.entries
+        → (t : Table) → ((p : Prefix6) → map_of.get t p ≡ route_after h place p) → held_by h.gateway.iface t ≡ brought_after h place }
+{}
+
+/// A Response takes the routes by way of its interface to the limit at most, if they were not past it before.
+pub fn limit_holds()
+    ensures { (h : Hearing) (after : Table) (limit : ℕ) → Heard h after → limit_at h.config h.gateway.iface ≡ Some limit
+        → held_by h.gateway.iface h.before ≤ limit → held_by h.gateway.iface after ≤ limit }
+{}
+
+/// Without filters and limits an interface refuses nothing.
+pub fn nothing_is_refused()
+    ensures { (h : Hearing) (place : ℕ) (e : Rte) → h.config.filters ≡ [] → h.config.limits ≡ [] → refusal_at h place e ≡ None }
 {}
 
 /// The changes of a start, replayed onto an empty forwarding table, give that of the router.

@@ -38,6 +38,7 @@ mod config;
 mod cut;
 mod entries;
 mod faults;
+mod filter;
 mod forwarding;
 mod hear;
 mod laws;
@@ -45,6 +46,7 @@ mod link_down;
 mod listed;
 mod listing;
 mod offered;
+mod quota;
 mod reason;
 mod reconfiguring;
 mod reply;
@@ -59,8 +61,10 @@ pub use arrival::{Arrival, Fault, MAX_HOP_LIMIT, RIPNG_PORT};
 pub use config::{
     ConfigRefused, INTERFACE_LIMIT, Interface, LEAST_MTU, MOST_MTU, OWNED_LIMIT, RouterConfig,
 };
+pub use filter::{Action, Filter, Limit};
 pub use laws::{
-    adopted_by_row, changes_replay, held_is_size, owned_routes_stay, pieces_join, start_replays,
+    adopted_by_row, brought_is_held, changes_replay, held_is_size, limit_holds, nothing_is_refused,
+    owned_routes_stay, pieces_join, start_replays,
 };
 pub use listed::Listed;
 pub use offered::Offered;

@@ -81,7 +81,8 @@ impl Offered {
     }
 }
 
-/// The offers of a Response, in the order of its entries. Skipped entries offer nothing.
+/// The offers of a Response, in the order of its entries. An entry with a flaw of its own offers nothing. What the interface does not
+/// take, or the table has no room for, is among them: the answer of the step has a note on it.
 ///
 /// # Errors
 /// Only out of memory.

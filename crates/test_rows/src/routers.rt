@@ -5,35 +5,113 @@ ghost use Rattle.router_core.specs.Reconfiguring.{NamesInterface};
 
 use crate::row::{Done, Row, moment};
 use crate::writing::{write_answer, write_due, write_one, write_router};
-use prefix6::Addr6;
+use prefix6::{Addr6, Prefix};
 use route_table::RouteStore;
 use router_core::{
-    Answer, Arrival, Change, Interface, Listed, NoteKind, ReconfigureRefused, Router, RouterConfig,
+    Action, Answer, Arrival, Change, Filter, Interface, Limit, Listed, NoteKind,
+    ReconfigureRefused, Router, RouterConfig,
 };
-use std::alloc::AllocError;
+use std::alloc::{AllocError, Global};
 use std::time::Instant;
 
-/// The configuration that words ask for, if it is accepted; else the refusal is written. Its interfaces are fe80::1 with an MTU of 1,280
-/// and fe80::1:1 with 1,500; `quiet` and `own PREFIX TAG` may follow.
-pub fn asked_config(row: &mut Row<'_>) -> Result<Option<RouterConfig>, AllocError> {
-    let interface = |host: u128, mtu| Interface {
-        addr: Addr6::from_bits((0xfe80 << 112) + host),
+/// What words ask of a configuration.
+#[derive(Drop)]
+struct Asked {
+    interfaces: Vec<Interface>,
+    prefixes: Vec<(Prefix, u16)>,
+    is_quiet: bool,
+    filters: Vec<Filter>,
+    limits: Vec<Limit>,
+}
+
+/// An interface of cost 1 in zone 0.
+fn interface(host: u128, mtu: u32) -> Interface {
+    Interface {
+        addr: Addr6::from_bits((0xfe80 << 112) | host),
         cost: 1,
         mtu,
-    };
-    let interfaces = [interface(1, 1280), interface(0x1_0001, 1500)];
-    let interfaces = Vec::from_slice(row.alloc, &interfaces)?;
-    let (mut prefixes, mut is_quiet) = (Vec::new(row.alloc), false);
+        zone: 0,
+    }
+}
+
+impl Asked {
+    /// Two interfaces, fe80::1 with an MTU of 1,280 and fe80::1:1 with 1,500, and nothing else.
+    fn new(alloc: Global) -> Result<Asked, AllocError> {
+        let interfaces = [interface(1, 1280), interface(0x1_0001, 1500)];
+        Ok(Asked {
+            interfaces: Vec::from_slice(alloc, &interfaces)?,
+            prefixes: Vec::new(alloc),
+            is_quiet: false,
+            filters: Vec::new(alloc),
+            limits: Vec::new(alloc),
+        })
+    }
+
+    /// More interfaces, up to a number of them: the next one is fe80::1:2.
+    fn grow(&mut self, count: u16) -> Done {
+        for host in 2..count {
+            self.interfaces
+                .push(interface(0x1_0000 + u128::from(host), 1500))?;
+        }
+        Ok(())
+    }
+
+    /// Another address and zone of an interface.
+    fn place(&mut self, row: &mut Row<'_>) {
+        let iface: usize = row.read(0);
+        let (addr, zone) = (row.read(Addr6::from_bits(0)), row.read(0));
+        match self.interfaces.get_mut(iface) {
+            Some(interface) => {
+                interface.addr = addr;
+                interface.zone = zone;
+            }
+            None => row.is_bad = true,
+        }
+    }
+
+    /// A filter of an interface: `exact` for its prefix alone, or `longer` for each within it, too.
+    fn filter(&mut self, row: &mut Row<'_>, action: Action) -> Done {
+        let (iface, prefix) = (row.read(0), row.prefix());
+        let reach = row.next();
+        row.is_bad |= reach != "exact" && reach != "longer";
+        self.filters.push(Filter {
+            iface,
+            action,
+            prefix,
+            is_longer: reach == "longer",
+        })?;
+        Ok(())
+    }
+
+    fn obey(&mut self, row: &mut Row<'_>, word: &str) -> Done {
+        match word {
+            "quiet" => self.is_quiet = true,
+            "own" => self.prefixes.push((row.prefix(), row.read(0)))?,
+            "interfaces" => self.grow(row.read(0))?,
+            "place" => self.place(row),
+            "accept" => self.filter(row, Action::Accept)?,
+            "reject" => self.filter(row, Action::Reject)?,
+            "limit" => self.limits.push(Limit {
+                iface: row.read(0),
+                routes: row.read(0),
+            })?,
+            _ => row.is_bad = true,
+        }
+        Ok(())
+    }
+}
+
+/// The configuration that words ask for, if it is accepted; else the refusal is written.
+pub fn asked_config(row: &mut Row<'_>) -> Result<Option<RouterConfig>, AllocError> {
+    let mut asked = Asked::new(row.alloc)?;
     for _ in 0..row.rest.len() {
         match row.next() {
             "" => break,
-            "quiet" => is_quiet = true,
-            "own" => prefixes.push((row.prefix(), row.read(0)))?,
-            _ => row.is_bad = true,
+            word => asked.obey(row, word)?,
         }
     }
-    match RouterConfig::check(interfaces, prefixes, is_quiet) {
-        Ok(config) => Ok(Some(config)),
+    match RouterConfig::check(asked.interfaces, asked.prefixes, asked.is_quiet) {
+        Ok(config) => Ok(Some(config.filtered(asked.filters, asked.limits))),
         Err(why) => {
             writeln!(row.text, "refused {why:?}")?;
             Ok(None)

@@ -14,7 +14,7 @@ use std::alloc::AllocError;
 
 impl<S: RouteStore> Router<S> {
     /// The offers of an arrival, in the order of its entries: those that [`Router::arrive`] processes, or has processed if that was
-    /// the last step. A refused arrival and a Request have none.
+    /// the last step, those that get a note among them. A refused arrival and a Request have none.
     ///
     /// # Errors
     /// Only out of memory.

@@ -4,7 +4,7 @@ use Rattle.ripng_wire.specs.Layout.{is_next_hop}
 use Rattle.router_core.specs.Adoption.{Gateway}
 use Rattle.router_core.specs.Offering.{Offered}
 use Rattle.router_core.specs.Offers.{next_hop_at, usable_hop}
-use Rattle.router_core.proofs.HearingLoop.{next_hop_set, next_hop_kept, first_left, none_left}
+use Rattle.router_core.proofs.NextHops.{next_hop_set, next_hop_kept, first_left, none_left}
 use Rattle.router_core.proofs.OfferedSteps.{offered_before, offered_all, offered-hop, offered-flawed, offered-next}
 use Rattle.router_core.proofs.offered.all_offered.Goals as goal
 

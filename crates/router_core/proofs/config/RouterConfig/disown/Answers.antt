@@ -1,6 +1,6 @@
 use Rattle.std.proofs.Common.{rules, ◌≡◌, ap}
 use Rattle.std.proofs.lemmas.Fn.{filter_same}
-use Rattle.router_core.specs.Config.{config}
+use Rattle.router_core.specs.Config.{config_with}
 use Rattle.router_core.specs.Reconfiguring.{without_prefix}
 use Rattle.router_core.proofs.ConfigChanges.{lawful_disown}
 use Rattle.router_core.proofs.config.RouterConfig.disown.Goals as goal
@@ -10,10 +10,10 @@ left c = filter_same _ _ _ (λ x b f' k. search rules) _ _ c.retain.ensures.filt
 
 pub invariant_of-self : goal.invariant_of-self
 invariant_of-self c =
-    let old = config c.self.inside.interfaces.items c.self.inside.prefixes.items c.self.inside.quiet in
+    let old = config_with c.self.inside.interfaces.items c.self.inside.prefixes.items c.self.inside.quiet c.self.inside.filters.items c.self.inside.limits.items in
     rw (left c) (lawful_disown old c.self.invariant c.args.prefix)
 
 pub returns : goal.returns
 returns c =
-    let old = config c.self.inside.interfaces.items c.self.inside.prefixes.items c.self.inside.quiet in
-    rw (← c.self.view_is) (ap (λ ts. config old.interfaces ts old.quiet) (left c))
+    let old = config_with c.self.inside.interfaces.items c.self.inside.prefixes.items c.self.inside.quiet c.self.inside.filters.items c.self.inside.limits.items in
+    rw (← c.self.view_is) (ap (λ ts. config_with old.interfaces ts old.quiet old.filters old.limits) (left c))
