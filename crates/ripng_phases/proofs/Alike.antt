@@ -11,9 +11,9 @@ use Rattle.ripng_phases.specs.Phases.{Step, Takes, IsHeardUpdate, Before, IsPhas
 module _ (net other : Network) (same : AreAlike net other) where
   pub address_alike : (router iface : ℕ) → address_at net router iface ≡ address_at other router iface
   address_alike router iface =
-      sym (of_place (interface_at net router iface)) ∙ ap (λ o. unwrap_or (option_map (λ (t : ℕ × ℕ × ℕ). t.1) o) 0) (sym (same.places router iface)) ∙ of_place (interface_at other router iface)
+      sym (of_place (interface_at net router iface)) ∙ ap (λ o. unwrap_or (option_map (λ (t : ℕ × ℕ × ℕ × ℕ). t.1) o) 0) (sym (same.places router iface)) ∙ of_place (interface_at other router iface)
     where
-      of_place : (o : Option NetInterface) → unwrap_or (option_map (λ (t : ℕ × ℕ × ℕ). t.1) (option_map place_of o)) 0 ≡ unwrap_or (option_map (λ (i : NetInterface). i.interface.addr) o) 0
+      of_place : (o : Option NetInterface) → unwrap_or (option_map (λ (t : ℕ × ℕ × ℕ × ℕ). t.1) (option_map place_of o)) 0 ≡ unwrap_or (option_map (λ (i : NetInterface). i.interface.addr) o) 0
       of_place None = refl
       of_place (Some i) = refl
 

@@ -15,14 +15,14 @@ use Rattle.router_core.specs.Timers.{timeout}
 use Rattle.router_core.specs.declared.answer.Answer.{Answer}
 use Rattle.router_core.specs.declared.reconfiguring.Change.{Change}
 use Rattle.ripng_world.specs.Healing.{network_now, reconfigured_network}
-use Rattle.ripng_world.specs.Network.{Network, Node, IsNetwork, Owns, config_of}
+use Rattle.ripng_world.specs.Network.{Network, Node, AreZoned, IsNetwork, Owns, config_of}
 use Rattle.ripng_world.specs.Past.{HasCostSince, OwnsSince}
 use Rattle.ripng_world.specs.Rounds.{router_of, moment_of}
 use Rattle.ripng_world.specs.Walks.{cost_of_interface}
 use Rattle.ripng_world.specs.World.{World, Event, Deliver, Stranger, Tick, Restart, Shutdown, LinkDown, LinkUp, Reconfigure, Happens, IsCold, WorldRun, arrival_of, past_of, reconfiguration_in, reconfigurations_in}
 use Rattle.ripng_world.proofs.Growing.{cost_grows, owner_grows}
 use Rattle.ripng_world.proofs.Members.{At, at_right, split_at}
-use Rattle.ripng_world.proofs.NetworkNow.{AreAlike, alike_back, alike_trans, now_alike}
+use Rattle.ripng_world.proofs.NetworkNow.{AreAlike, alike_back, alike_trans, now_alike, now_zoned}
 use Rattle.ripng_world.proofs.Reached.{IsReachedBy}
 use Rattle.ripng_world.proofs.ReachedRuns.{AreReached}
 use Rattle.ripng_world.proofs.ReachedWorlds.{reached_from_cold}
@@ -90,12 +90,12 @@ pub record IsBorn (net : Network) (w : World) (history : List Timed) (born route
   pub tag : r.tag ≡ rests.entry.tag
 
 -- a route that is taken has the tag of the entry that it rests on, and so has the same route later
-taken_tagged : (net : Network) (w : World) (e : Event) (answer : Answer) (router : ℕ) (s t : State) (node : Node) (node_is : slice_get net router ≡ Some node) (config_is : s.config ≡ config_of node)
+taken_tagged : (net : Network) (zoned : AreZoned net) (w : World) (e : Event) (answer : Answer) (router : ℕ) (s t : State) (node : Node) (node_is : slice_get net router ≡ Some node) (config_is : s.config ≡ config_of node)
     (here : HearsHere net w e answer router s t) (p : Prefix6) (r : RouteValue) (until : ℕ) (taken : IsTaken (gateway_of s (max s.last here.now) (arrival_of net here.sent here.iface here.now)) here.hears.entries p r until)
     → (x : IsRestingOn net w here.datagram router p r) × (r.tag ≡ x.entry.tag)
 unfolding taken_rests
-taken_tagged net w e answer router s t node node_is config_is here p r until taken =
-    (taken_rests net w e answer router s t node node_is config_is here p r until taken here.datagram (le_refl here.datagram), taken.tag)
+taken_tagged net zoned w e answer router s t node node_is config_is here p r until taken =
+    (taken_rests net zoned w e answer router s t node node_is config_is here p r until taken here.datagram (le_refl here.datagram), taken.tag)
 
 later_tagged : (net : Network) (w : World) (first router : ℕ) (p : Prefix6) (q r : RouteValue) → IsSame q r → (x : IsRestingOn net w first router p q) → q.tag ≡ x.entry.tag
     → (y : IsRestingOn net w first router p r) × (r.tag ≡ y.entry.tag)
@@ -303,8 +303,9 @@ module _ (net : Network) (is_net : IsNetwork net) (moments : List ℕ) (events :
     taken router o t at p r until h got =
         let here : router_of s.step.event ≡ router = ap router_of h.event in
         let on : StartsAnew router s.step.event → ⊥ = subst (λ (e : Event). StartsAnew router e → ⊥) (sym h.event) (λ start. start) in
-        let state = (reached_here before (s ∷ after) parts).states router o at in
-        let rests = taken_tagged (network_now (past_of net v)) v s.step.event s.step.answer router o t state.node state.node_is state.config_is h p r until got in
+        let all = reached_here before (s ∷ after) parts in
+        let state = all.states router o at in
+        let rests = taken_tagged (network_now (past_of net v)) (now_zoned v.reconfigurations net all.zoned) v s.step.event s.step.answer router o t state.node state.node_is state.config_is h p r until got in
         record {
           born = s.at;
           clock = λ u n. goes_on until o.last h.now u.at (moment_of u.step.event) s.at got.until_is (time_on router o at on u n)

@@ -253,8 +253,9 @@ module _ (net : Network) (known : Prefix6 → Type 0) (positive : IsPositive net
 
           other : router ≢ here.sent.router
           other =
-              let o = (orderly_here net known past w steps w' calm.part before s after parts).states router x x_is in
-              is_another net here.sent router here.iface x o.node o.node_is o.config_is here.linked (not_own x.config (arrival_of net here.sent here.iface here.now) here.clean here.response)
+              let all = orderly_here net known past w steps w' calm.part before s after parts in
+              let o = all.states router x x_is in
+              is_another net all.zoned here.sent router here.iface x o.node o.node_is o.config_is here.linked (not_own x.config (arrival_of net here.sent here.iface here.now) here.clean here.response)
 
           by_tight : here.datagram < length w.sent → IsComing after ⊎ HasBetter net router p bound
           by_tight early =

@@ -89,7 +89,7 @@ module _ (net : Network) (known : Prefix6 → Type 0) (positive : IsPositive net
       other : router ≢ here.sent.router
       other =
           let o = orderly.states router s s_is in
-          is_another net here.sent router here.iface s o.node o.node_is o.config_is here.linked (not_own s.config (arrival_of net here.sent here.iface here.now) here.clean here.response)
+          is_another net orderly.zoned here.sent router here.iface s o.node o.node_is o.config_is here.linked (not_own s.config (arrival_of net here.sent here.iface here.now) here.clean here.response)
 
       neighbors : IsNeighbor net router (gateway_of s (max s.last here.now) (arrival_of net here.sent here.iface here.now)) here.sent.router here.sent.iface
       neighbors = let o = orderly.states router s s_is in neighbor net here.sent router here.iface n here.now s o.node o.node_is o.config_is here.linked other

@@ -36,7 +36,7 @@ positive_of : (net : Network) → IsNetwork net → IsPositive net
 positive_of net is_net router iface here is =
     subst (λ (o : Option NetInterface). 1 ≤ unwrap_or (option_map (λ i. i.interface.cost) o) infinity) (sym is) (is_net.usable.costs router iface here is).0
 
-module _ (net : Network) (is_net : IsNetwork net) (noisy : IsNeverQuiet net) (reconfigurations : List (ℕ × Change)) (fits : AreFew (IsKnown (record { net = net; reconfigurations = reconfigurations }))) where
+module _ (net : Network) (is_net : IsNetwork net) (noisy : IsNeverQuiet net) (reconfigurations : List (ℕ × Change)) (fits : AreFew (network_now (record { net = net; reconfigurations = reconfigurations })) (IsKnown (record { net = net; reconfigurations = reconfigurations }))) where
   abbrev now : Network
   now = network_now (record { net = net; reconfigurations = reconfigurations })
 

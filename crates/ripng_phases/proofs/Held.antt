@@ -100,7 +100,7 @@ module _ (net : Network) (w w' : World) (e : Event) (answer : Answer) (h : Happe
       let o = orderly.states router s s_is in
       record {
         rests = rests_later net w w' number router p r r (event_keeps_sent net w w' e answer h) (record { metric = refl; tag = refl; origin = refl; clock = refl })
-            (taken_rests net w e answer router s t o.node o.node_is o.config_is here p r until taken number late);
+            (taken_rests net orderly.zoned w e answer router s t o.node o.node_is o.config_is here p r until taken number late);
         ahead = more_left t.last (max s.last here.now) until (ap (λ (x : State). x.last) here.hears.state) taken.until_is;
         since = here.now;
         since_is = subst (λ n. moments router n) (ap moment_of here.event) (subst (λ k. moments k (moment_of e)) (ap router_of here.event) now);

@@ -4,7 +4,7 @@ use Rattle.std.proofs.lemmas.Bool.Decides.{nat_tests}
 use Rattle.route_table.proofs.TableLaws.{Some-same}
 use Rattle.router_core.specs.Ageing.{aged_table, unmarked}
 use Rattle.router_core.specs.Faults.{fault}
-use Rattle.router_core.specs.Machine.{State, Happening, Arrives, Ticks, Hears, Replies, Refuses, is_regular_due, is_triggered_due, ticked}
+use Rattle.router_core.specs.Machine.{State, Happening, Arrives, Ticks, LinkComesUp, Hears, Replies, Refuses, is_regular_due, is_triggered_due, ticked}
 use Rattle.router_core.specs.Received.{Received}
 use Rattle.router_core.specs.declared.answer.Answer.{Answer}
 use Rattle.router_core.specs.declared.arrival.Fault.{Fault}
@@ -75,7 +75,10 @@ step_later net w w' (Tick to now word) answer plain m router s is =
 step_later net w w' (Restart to now) answer plain m router s is = absurd plain
 step_later net w w' (Shutdown to now) answer plain m router s is = absurd plain
 step_later net w w' (LinkDown to now on) answer plain m router s is = absurd plain
-step_later net w w' (LinkUp to now on) answer plain m router s is = absurd plain
+step_later net w w' (LinkUp to now on) answer plain m router s is =
+    moved_later w w' to (LinkComesUp now on) answer m
+    (subst (λ n. m.old.regular ≤ n) (sym (ap (λ (t : State). t.regular) m.moves.state)) (le_refl m.old.regular))
+    router s is
 step_later net w w' (Reconfigure to now c) answer plain m router s is = absurd plain
 
 pub takes_later : (net : Network) (steps : List Step) (w w' : World) → Takes net w steps w'

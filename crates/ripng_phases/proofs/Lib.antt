@@ -52,4 +52,3 @@ pub mod Handing
 pub mod Latest
 pub mod EachPlace
 pub mod TwoRouters
-mod RecentExample

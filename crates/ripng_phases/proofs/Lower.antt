@@ -68,7 +68,7 @@ module _ (net : Network) (known : Prefix6 → Type 0) (positive : IsPositive net
             | inr got ↦
                 let o = orderly.states router from.0 from.1 in
                 let x : IsRestingOn net w first router p r =
-                taken_rests net w e answer router from.0 at.0 o.node o.node_is o.config_is got.0 p r until got.1 first (recent got.0.datagram router got.0.iface got.0.now got.0.event) in
+                taken_rests net orderly.zoned w e answer router from.0 at.0 o.node o.node_is o.config_is got.0 p r until got.1 first (recent got.0.datagram router got.0.iface got.0.now got.0.event) in
                 rests_above net w first m router p r x (positive router x.iface x.linked.here x.linked.here_is) low
                 (subst (λ q. IsAbove net m x.sent.router q x.entry.metric) x.names (said x.datagram x.sent x.recent x.sent_is x.entries x.spelled x.entry x.stands (rests_low net w first router p r x low)))
           ]

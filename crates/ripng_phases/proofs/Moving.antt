@@ -6,7 +6,7 @@ use Rattle.ripng_wire.specs.Wire.{is_response}
 use Rattle.route_table.proofs.TableLaws.{get-map_values}
 use Rattle.router_core.specs.Ageing.{aged, aged_table, unmarked, without_mark}
 use Rattle.router_core.specs.Faults.{fault}
-use Rattle.router_core.specs.Machine.{State, Happening, Arrives, Ticks, Hears, Replies, Refuses, is_regular_due, is_triggered_due}
+use Rattle.router_core.specs.Machine.{State, Happening, Arrives, Ticks, LinkComesUp, Hears, Replies, Refuses, is_regular_due, is_triggered_due}
 use Rattle.router_core.specs.declared.answer.Answer.{Answer}
 use Rattle.router_core.specs.declared.arrival.Fault.{Fault}
 use Rattle.ripng_world.specs.Network.{Network, AreLinked}
@@ -111,5 +111,7 @@ step_of net w w' (Stranger to x) answer plain i =
 step_of net w w' (Restart to now) answer plain m = λ router t is. absurd plain
 step_of net w w' (Shutdown to now) answer plain m = λ router t is. absurd plain
 step_of net w w' (LinkDown to now on) answer plain m = λ router t is. absurd plain
-step_of net w w' (LinkUp to now on) answer plain m = λ router t is. absurd plain
+step_of net w w' (LinkUp to now on) answer plain m =
+    moved net w w' (LinkUp to now on) to (LinkComesUp now on) answer m
+    (inl (record { config = ap (λ (s : State). s.config) m.moves.state; table = ap (λ (s : State). s.table) m.moves.state; last = inr (refl, ap (λ (s : State). s.last) m.moves.state) }))
 step_of net w w' (Reconfigure to now c) answer plain m = λ router t is. absurd plain

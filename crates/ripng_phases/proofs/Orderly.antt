@@ -12,10 +12,10 @@ use Rattle.router_core.specs.Machine.{State}
 use Rattle.router_core.specs.Timers.{timeout}
 use Rattle.router_core.specs.declared.reconfiguring.Change.{Change}
 use Rattle.ripng_world.specs.Healing.{network_now}
-use Rattle.ripng_world.specs.Network.{Network, Node, IsNetwork, Owns, config_of}
+use Rattle.ripng_world.specs.Network.{Network, Node, AreZoned, IsNetwork, Owns, config_of}
 use Rattle.ripng_world.specs.World.{World}
 use Rattle.ripng_world.proofs.HealPlain.{IsPlainRow}
-use Rattle.ripng_world.proofs.NetworkNow.{now_alike}
+use Rattle.ripng_world.proofs.NetworkNow.{now_alike, now_zoned}
 use Rattle.ripng_world.proofs.Reached.{IsKnown, IsReachedBy}
 use Rattle.ripng_world.proofs.ReachedRuns.{IsReachedState}
 use Rattle.ripng_phases.specs.Phases.{Step, Takes, reached}
@@ -35,8 +35,9 @@ pub record IsOrderlyState (net : Network) (known : Prefix6 → Type 0) (router :
   pub by_clock : (p : Prefix6) (r : RouteValue) → map_of.get s.table p ≡ Some r → IsOrderlyBy net router s.last p r r.clock
   pub owned : (p : Prefix6) (tag : ℕ) → Owns net router p tag → (r : RouteValue) × (map_of.get s.table p ≡ Some r) × (r.clock ≡ Fixed)
 
--- so is every router, and each is there
+-- so is every router, and each is there; and each link is in one zone
 pub record IsOrderly (net : Network) (known : Prefix6 → Type 0) (w : World) : Type 0 where
+  pub zoned : AreZoned net
   pub states : (router : ℕ) (s : State) → slice_get w.states router ≡ Some s → IsOrderlyState net known router s
   pub everyone : (router : ℕ) (node : Node) → slice_get net router ≡ Some node → (s : State) × (slice_get w.states router ≡ Some s)
 
@@ -48,6 +49,7 @@ module _ (start : Network) (is_net : IsNetwork start) (reconfigurations : List (
   pub orderly_of : (w : World) → IsSettled start is_net reconfigurations w → IsOrderly (network_now (record { net = start; reconfigurations = reconfigurations })) (IsKnown (record { net = start; reconfigurations = reconfigurations })) w
   orderly_of w is =
       record {
+        zoned = now_zoned reconfigurations start is.all.zoned;
         states = λ router s at. orderly_state router s (state_at start is_net reconfigurations w is router s at);
         everyone = λ router node node_is. there router node (slice_get start router) refl (sym ((now_alike reconfigurations start).quiet router) ∙ ap (option_map (λ (n : Node). n.quiet)) node_is);
       }

@@ -10,7 +10,7 @@ use Rattle.route_table.specs.declared.route.Origin.TheVariants.{Own, Learned}
 use Rattle.router_core.specs.Machine.{State, gateway_of}
 use Rattle.router_core.specs.Offers.{prefix_named}
 use Rattle.router_core.specs.declared.answer.Answer.{Answer}
-use Rattle.ripng_world.specs.Network.{Network, Node, AreLinked, config_of, interface_at}
+use Rattle.ripng_world.specs.Network.{Network, Node, AreLinked, AreZoned, config_of, interface_at}
 use Rattle.ripng_world.specs.Truth.{IsNeighbor}
 use Rattle.ripng_world.specs.Walks.{Hop, Reaches, cost_of_interface}
 use Rattle.ripng_world.specs.World.{World, Event, address_at, arrival_of}
@@ -41,13 +41,13 @@ pub record IsRestingOn (net : Network) (w : World) (first router : ℕ) (p : Pre
   pub origin : r.origin ≡ Learned iface (address_at net sent.router sent.iface) next_hop
 
 -- a route that is taken rests on the datagram that is heard
-unfoldable pub taken_rests : (net : Network) (w : World) (e : Event) (answer : Answer) (router : ℕ) (s t : State) (node : Node) → slice_get net router ≡ Some node → s.config ≡ config_of node
+unfoldable pub taken_rests : (net : Network) → AreZoned net → (w : World) (e : Event) (answer : Answer) (router : ℕ) (s t : State) (node : Node) → slice_get net router ≡ Some node → s.config ≡ config_of node
     → (here : HearsHere net w e answer router s t) (p : Prefix6) (r : RouteValue) (until : ℕ)
     → IsTaken (gateway_of s (max s.last here.now) (arrival_of net here.sent here.iface here.now)) here.hears.entries p r until
     → (first : ℕ) → first ≤ here.datagram → IsRestingOn net w first router p r
-taken_rests net w e answer router s t node node_is config_is here p r until taken first recent =
+taken_rests net zoned w e answer router s t node node_is config_is here p r until taken first recent =
     let other : router ≢ here.sent.router =
-    is_another net here.sent router here.iface s node node_is config_is here.linked (not_own s.config (arrival_of net here.sent here.iface here.now) here.clean here.response) in
+    is_another net zoned here.sent router here.iface s node node_is config_is here.linked (not_own s.config (arrival_of net here.sent here.iface here.now) here.clean here.response) in
     let near : IsNeighbor net router (gateway_of s (max s.last here.now) (arrival_of net here.sent here.iface here.now)) here.sent.router here.sent.iface =
     neighbor net here.sent router here.iface (max s.last here.now) here.now s node node_is config_is here.linked other in
     record {

@@ -9,7 +9,7 @@ use Rattle.route_table.specs.Table.{Table}
 use Rattle.route_table.proofs.TableLaws.{None-Some, get-map_values}
 use Rattle.router_core.specs.Ageing.{aged, aged_table, unmarked}
 use Rattle.router_core.specs.Faults.{fault}
-use Rattle.router_core.specs.Machine.{State, Happening, Arrives, Ticks, Hears, Replies, Refuses, is_regular_due, is_triggered_due}
+use Rattle.router_core.specs.Machine.{State, Happening, Arrives, Ticks, LinkComesUp, Hears, Replies, Refuses, is_regular_due, is_triggered_due}
 use Rattle.router_core.specs.Output.{AreSpelled}
 use Rattle.router_core.specs.Received.{Received}
 use Rattle.router_core.specs.declared.answer.Answer.{Answer}
@@ -23,7 +23,7 @@ use Rattle.ripng_world.proofs.HealHearing.{AreFew}
 use Rattle.ripng_world.proofs.RoundNeighbors.{set_here}
 use Rattle.ripng_phases.specs.Phases.{IsOrdinary}
 use Rattle.ripng_phases.proofs.Orderly.{IsOrderly}
-use Rattle.ripng_phases.proofs.Telling.{IsClean, IsTrueDatagram, replies_sound, tick_sound, unmarked_true}
+use Rattle.ripng_phases.proofs.Telling.{IsClean, IsTrueDatagram, asks_sound, replies_sound, tick_sound, unmarked_true}
 
 -- the datagram tells what its sender holds
 abbrev pub IsToldTruly : World → Sent → Type 0
@@ -67,7 +67,7 @@ arrived_true old new x answer clean None true hears = by answer.sends hears.answ
 arrived_true old new x answer clean None false replies =
     subst (λ (t : Table). AreTrue t answer.sends) (sym (ap (λ (s : State). s.table) replies.state)) (replies_sound old.table clean old (max old.last x.now) x answer new refl replies)
 
-module _ (net : Network) (known : Prefix6 → Type 0) (fits : AreFew known) where
+module _ (net : Network) (known : Prefix6 → Type 0) (fits : AreFew net known) where
   clean_state : (w : World) → IsOrderly net known w → (router : ℕ) (s : State) → slice_get w.states router ≡ Some s → IsClean s.table
   clean_state w orderly router s is p r at = fits.prefixes p ((orderly.states router s is).plain p r at).is_known
 
@@ -95,5 +95,8 @@ module _ (net : Network) (known : Prefix6 → Type 0) (fits : AreFew known) wher
   event_tells w w' orderly (Restart to now) answer plain m = absurd plain
   event_tells w w' orderly (Shutdown to now) answer plain m = absurd plain
   event_tells w w' orderly (LinkDown to now on) answer plain m = absurd plain
-  event_tells w w' orderly (LinkUp to now on) answer plain m = absurd plain
+  event_tells w w' orderly (LinkUp to now on) answer plain m =
+      mover_tells w w' to (LinkComesUp now on) answer m
+      (subst (λ (s : State). AreTrue s.table answer.sends) (sym m.moves.state)
+      (asks_sound m.old.table (clean_state w orderly to m.old m.old_is) m.old (max m.old.last now) on answer m.new m.moves))
   event_tells w w' orderly (Reconfigure to now c) answer plain m = absurd plain

@@ -1,15 +1,15 @@
 -- The worlds of phases: costs and owners stay, and all states are such as were ever reached.
-use Rattle.std.proofs.Common.{◌≡◌, inl, inr, ℕ, List, [], ◌∷◌, ◌++◌, Some, slice_get, refl, ap, subst, ◌∙◌, append-nil, IsTrue}
+use Rattle.std.proofs.Common.{◌≡◌, inl, inr, ℕ, List, [], ◌∷◌, ◌++◌, length, Some, slice_get, refl, ap, subst, ◌∙◌, append-nil, IsTrue}
 use Rattle.prefix6.specs.Prefix.{Prefix6, IsPrefix, is_routable}
 use Rattle.router_core.specs.Machine.{State}
 use Rattle.router_core.specs.declared.answer.Answer.{Answer}
 use Rattle.router_core.specs.declared.reconfiguring.Change.{Change}
-use Rattle.ripng_world.specs.Healing.{FitsTablesSince}
+use Rattle.ripng_world.specs.Healing.{FitsTablesSince, network_now}
 use Rattle.ripng_world.specs.Network.{Network, IsNetwork}
 use Rattle.ripng_world.specs.World.{World, Event, Deliver, Stranger, Tick, Restart, Shutdown, LinkDown, LinkUp, Reconfigure, Happens, WorldRun, IsCold, past_of}
 use Rattle.ripng_world.proofs.Each.{each_at_place}
 use Rattle.ripng_world.proofs.HealHearing.{AreFew}
-use Rattle.ripng_world.proofs.NetworkNow.{IsLawfulChange}
+use Rattle.ripng_world.proofs.NetworkNow.{IsLawfulChange, now_alike, taken_alike}
 use Rattle.ripng_world.proofs.Reached.{IsKnown}
 use Rattle.ripng_world.proofs.ReachedRuns.{AreReached, IsReachedState}
 use Rattle.ripng_world.proofs.ReachedWorlds.{reached_on, reached_from_cold}
@@ -25,7 +25,7 @@ event_keeps net w w' (Tick router now word) answer plain m = m.reconfigurations 
 event_keeps net w w' (Restart router now) answer plain m = absurd plain
 event_keeps net w w' (Shutdown router now) answer plain m = absurd plain
 event_keeps net w w' (LinkDown router now on) answer plain m = absurd plain
-event_keeps net w w' (LinkUp router now on) answer plain m = absurd plain
+event_keeps net w w' (LinkUp router now on) answer plain m = m.reconfigurations ∙ append-nil w.reconfigurations
 event_keeps net w w' (Reconfigure router now c) answer plain m = absurd plain
 
 pub takes_keep : (net : Network) (steps : List Step) (w w' : World) → Takes net w steps w' → w'.reconfigurations ≡ w.reconfigurations
@@ -59,8 +59,8 @@ pub settled_from_cold : (net : Network) (is_net : IsNetwork net) (moments : List
 settled_from_cold net is_net moments events cold w is run =
     record { good = run_from_cold net is_net.owns_prefixes moments events cold w is run; all = reached_from_cold net is_net moments events cold w is run; changed = refl }
 
--- the prefixes that are or were owned are few
-pub few_of : (net : Network) (is_net : IsNetwork net) (w : World) → AreReached net w → FitsTablesSince (past_of net w) → AreFew (IsKnown (past_of net w))
+-- the prefixes that are or were owned are few, and no filter or limit keeps one out
+pub few_of : (net : Network) (is_net : IsNetwork net) (w : World) → AreReached net w → FitsTablesSince (past_of net w) → AreFew (network_now (past_of net w)) (IsKnown (past_of net w))
 few_of net is_net w all fits =
     record {
       owned = fits.0;
@@ -68,6 +68,7 @@ few_of net is_net w all fits =
       all = λ p k. fits.2 k.0 p k.1 k.2;
       prefixes = λ p k. (lawful p k).0;
       routable = λ p k. (lawful p k).1;
+      taken = taken_alike net (network_now (past_of net w)) (now_alike w.reconfigurations net) (IsKnown (past_of net w)) (length fits.0) fits.3;
     }
   where
     lawful : (p : Prefix6) → IsKnown (past_of net w) p → IsPrefix p × IsTrue (is_routable p)

@@ -1,11 +1,11 @@
 -- What a router sends of a prefix is what its table holds, but where it was learned on the interface: there it may be told as lost.
-use Rattle.std.proofs.Common.{◌≡◌, ◌⊎◌, inl, inr, ℕ, ◌+◌, ◌*◌, ◌-◌, ◌/◌, ◌<◌, ◌≤◌, Bool, true, false, cond, ◌&&◌, ◌==◌, nat_le, List, [], ◌∷◌, map, drop, length, flat_map, slice_range, Option, Some, None, option_and_then, refl, ap, sym, subst, ◌∙◌, arith}
+use Rattle.std.proofs.Common.{◌≡◌, ◌⊎◌, inl, inr, ℕ, ◌+◌, ◌*◌, ◌-◌, ◌/◌, ◌<◌, ◌≤◌, Bool, true, false, cond, ◌&&◌, ◌==◌, nat_le, nat_lt, List, [], ◌∷◌, map, drop, length, flat_map, slice_range, Option, Some, None, option_and_then, refl, ap, sym, subst, ◌∙◌, arith}
 use Rattle.std.specs.List.{AllByRecursion, enumerate_from}
 use Rattle.std.specs.FinMap as map_of
 use Rattle.std.proofs.lemmas.Bool.Decides.{nat_tests}
 use Rattle.prefix6.specs.Prefix.{Prefix6, IsPrefix, cleared}
 use Rattle.ripng_wire.specs.declared.rte.Rte.{Rte}
-use Rattle.ripng_wire.specs.declared.rte.Command.TheVariants.{Response}
+use Rattle.ripng_wire.specs.declared.rte.Command.TheVariants.{Request, Response}
 use Rattle.ripng_wire.specs.Layout.{Spells, entries_for_mtu}
 use Rattle.ripng_wire.proofs.OneReading.{one_reading}
 use Rattle.route_table.specs.Route.{RouteValue, infinity}
@@ -15,8 +15,8 @@ use Rattle.router_core.specs.Config.{Config, mtu_at}
 use Rattle.router_core.specs.Received.{Received}
 use Rattle.router_core.specs.Faults.{ripng_port}
 use Rattle.router_core.specs.Ageing.{aged_table, unmarked, without_mark}
-use Rattle.router_core.specs.Output.{Message, AreSpelled, told, told_entry, is_learned_on, every_route, is_changed, numbers_below, pieces, filled, reply_entry, reply, asks_for_all, responses, update_messages, reply_messages}
-use Rattle.router_core.specs.Machine.{State, Replies, tick_messages, is_regular_due, is_triggered_due}
+use Rattle.router_core.specs.Output.{Message, AreSpelled, told, told_entry, is_learned_on, every_route, is_changed, numbers_below, pieces, filled, reply_entry, reply, asks_for_all, responses, request_on, link_up_messages, update_messages, reply_messages}
+use Rattle.router_core.specs.Machine.{State, AsksOn, Replies, tick_messages, is_regular_due, is_triggered_due}
 use Rattle.router_core.specs.declared.answer.Answer.{Answer}
 use Rattle.router_core.specs.declared.answer.Outgoing.{Outgoing}
 use Rattle.router_core.specs.declared.answer.Destination.{Destination}
@@ -117,6 +117,18 @@ module _ (table : Table) (clean : IsClean table) where
         | false ↦ responses_true config x.iface (Peer x.source x.source_port) (reply x.iface table asked) (all_replied x.iface asked)
       ]
 
+  -- a Request tells nothing
+  pub link_up_true : (config : Config) (iface : ℕ) → AllTrueMessages (link_up_messages config iface)
+  link_up_true config iface = by config.quiet (nat_lt iface (length config.interfaces))
+    where
+      other : Request ≡ Response → ⊥
+      other e = cc
+
+      by : (b c : Bool) → AllTrueMessages (cond b [] (cond c (request_on iface ∷ []) []))
+      by true c = tt
+      by false true = (λ is. absurd (other is), tt)
+      by false false = tt
+
   abbrev pub AllSound : List Outgoing → Type 0
   AllSound sends = AllByRecursion (λ o. IsTrueDatagram table o.iface o.bytes) sends
 
@@ -136,6 +148,10 @@ module _ (table : Table) (clean : IsClean table) where
   replies_sound old now x answer new is replies =
       spelled_true (reply_messages old.config table x replies.entries) answer.sends (replies_true old.config x replies.entries)
       (subst (λ t. AreSpelled (reply_messages old.config t x replies.entries) answer.sends) is replies.answer_is.sends)
+
+  -- a Request for whole tables
+  pub asks_sound : (old : State) (now iface : ℕ) (answer : Answer) (new : State) → AsksOn old now iface answer new → AllSound answer.sends
+  asks_sound old now iface answer new asks = spelled_true (link_up_messages old.config iface) answer.sends (link_up_true old.config iface) asks.answer_is.sends
 
   -- an update
   pub tick_sound : (old : State) (now : ℕ) (sends : List Outgoing) → aged_table now old.table ≡ table → AreSpelled (tick_messages old now) sends → AllSound sends

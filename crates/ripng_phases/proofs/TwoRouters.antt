@@ -25,7 +25,7 @@ use Rattle.fib.specs.declared.change.RouteChange.TheVariants.{Install}
 use Rattle.router_core.specs.Ageing.{aged, aged_table, unmarked}
 use Rattle.router_core.specs.Adoption.{adopted}
 use Rattle.router_core.specs.Changes.{change, changes_of_ageing, changes_of_hearing, changes_of_start}
-use Rattle.router_core.specs.Config.{Config}
+use Rattle.router_core.specs.Config.{Config, config}
 use Rattle.router_core.specs.Faults.{fault}
 use Rattle.router_core.specs.Hearing.{Hearing, Heard, hearing, route_after, would_add, held_after, notes_of_new, allowed_notes, note_at}
 use Rattle.router_core.specs.Machine.{State, Arrives, Moves, Starts, Updates, Hears, Replies, Accepts, Refuses, owned_table, tick_messages}
@@ -39,9 +39,12 @@ use Rattle.router_core.specs.declared.answer.Destination.{Destination}
 use Rattle.router_core.specs.declared.answer.Destination.TheVariants.{Group, Peer}
 use Rattle.router_core.specs.declared.answer.NoteKind.TheVariants.{TableFull, NoMemory}
 use Rattle.router_core.specs.declared.answer.Outgoing.{Outgoing}
-use Rattle.ripng_world.specs.Network.{Network, Node, IsNetwork, interface_at}
+use Rattle.router_core.specs.declared.config.Interface.{Interface}
+use Rattle.ripng_world.specs.Network.{Network, Node, AreZoned, IsNetwork, interface_at}
 use Rattle.ripng_world.specs.declared.network.NetInterface.{NetInterface}
 use Rattle.router_core.proofs.HearingSteps.{after_one, before_all}
+use Rattle.router_core.proofs.NoFilters.{notes_without_filters}
+use Rattle.ripng_world.proofs.LawfulNetworks.{zones_of_one}
 
 -- fe80::n
 abbrev pub local : ℕ → ℕ
@@ -51,9 +54,13 @@ local n = 0xfe80_0000_0000_0000_0000_0000_0000_0000 + n
 abbrev pub doc : Prefix6
 doc = record { addr = 0x2001_0db8_0000_0000_0000_0000_0000_0000; len = 32 }
 
+-- fe80::n with cost 1
+abbrev pub port : ℕ → Interface
+port n = record { addr = local n; cost = 1; mtu = 1500; zone = 0 }
+
 -- a router with one interface, fe80::n, that owns these prefixes
 abbrev pub router : ℕ → List (Prefix6 × ℕ) → Config
-router n owned = record { interfaces = record { addr = local n; cost = 1; mtu = 1500 } ∷ []; prefixes = owned; quiet = false }
+router n owned = config (port n ∷ []) owned false
 
 abbrev pub owned : List (Prefix6 × ℕ)
 owned = (doc, 0) ∷ []
@@ -66,10 +73,14 @@ learner = router 2 []
 
 -- both are on one link
 abbrev pub facing : ℕ → NetInterface
-facing n = record { interface = record { addr = local n; cost = 1; mtu = 1500 }; link = 7 }
+facing n = record { interface = port n; link = 7 }
+
+-- a router of the network, without filters and limits
+abbrev pub node : ℕ → List (Prefix6 × ℕ) → Node
+node n owned = record { interfaces = facing n ∷ []; prefixes = owned; quiet = false; filters = []; limits = [] }
 
 abbrev pub nodes : Network
-nodes = record { interfaces = facing 1 ∷ []; prefixes = owned; quiet = false } ∷ record { interfaces = facing 2 ∷ []; prefixes = []; quiet = false } ∷ []
+nodes = node 1 owned ∷ node 2 [] ∷ []
 
 -- what holds of both interfaces holds of each
 each : (P : ℕ → ℕ → NetInterface → Type 0) → P 0 0 (facing 1) → P 1 0 (facing 2) → (r i : ℕ) (a : NetInterface) → interface_at nodes r i ≡ Some a → P r i a
@@ -78,6 +89,10 @@ each P x y zero (suc i) a is = absurd (None-Some a is)
 each P x y (suc zero) zero a is = subst (P 1 0) (Some-same (facing 2) a is) y
 each P x y (suc zero) (suc i) a is = absurd (None-Some a is)
 each P x y (suc (suc r)) i a is = absurd (None-Some a is)
+
+-- the link is in one zone
+pub zoned : AreZoned nodes
+zoned = zones_of_one nodes 0 (each (λ r i a. a.interface.zone ≡ 0) refl refl)
 
 -- whose address it is
 abbrev whose : ℕ → ℕ
@@ -105,7 +120,7 @@ is_network =
           sym (known r i l.here l.here_is).0 ∙ ap whose same ∙ (known s j l.there l.there_is).0,
           (known r i l.here l.here_is).1 ∙ sym (known s j l.there l.there_is).1,
         );
-        of_neighbors = λ r i k s j own is l same. sym (known r i own is).0 ∙ ap whose same ∙ (known s j l.there l.there_is).0;
+        of_neighbors = λ r i k s j own is l zone same. sym (known r i own is).0 ∙ ap whose same ∙ (known s j l.there l.there_is).0;
       };
       usable = record {
         costs = each (λ r i a. (1 ≤ a.interface.cost) × (a.interface.cost < infinity)) (omega arith, omega arith) (omega arith, omega arith);
@@ -289,7 +304,8 @@ first_of_all x xs = (0, omega arith, refl)
 -- no note is needed
 unnoted : (now : ℕ) (place : ℕ) (e : Rte) → slice_get (heard_at now).entries place ≡ Some e → Contains (allowed_notes (heard_at now) place e) (note_at (heard_at now) place)
 unnoted now zero e is = subst (λ e. Contains (allowed_notes (heard_at now) 0 e) None) (Some-same (entry_of (owned_route 0)) e is)
-    (by_adding (would_add (heard_at now) 0 (entry_of (owned_route 0))))
+    (subst (λ allowed. Contains allowed None) (sym (notes_without_filters (heard_at now) 0 (entry_of (owned_route 0)) refl refl))
+    (by_adding (would_add (heard_at now) 0 (entry_of (owned_route 0)))))
   where
     room : held_after (heard_at now) 0 ≡ 0
     room = ap (λ n. n + 0) (map_of.len-empty prefix_cmp RouteValue)

@@ -61,7 +61,7 @@ pub record IsToldIn (net : Network) (mid : World) (known : Prefix6 → Type 0) (
   pub entry : Rte
   pub stands : At entries entry
 
-module _ (net : Network) (usable : IsUsable net) (distinct : HasDistinctAddresses net) (known : Prefix6 → Type 0) (fits : AreFew known) (mid v v' : World) (orderly : IsOrderly net known v)
+module _ (net : Network) (usable : IsUsable net) (distinct : HasDistinctAddresses net) (known : Prefix6 → Type 0) (fits : AreFew net known) (mid v v' : World) (orderly : IsOrderly net known v)
     (datagram router iface now : ℕ) (answer : Answer) (memory : All (λ n. n.kind ≢ NoMemory) answer.notes) (h : Delivers net v datagram router iface now answer v')
     (update : IsToldIn net mid known h.sent) (other : router ≢ h.sent.router) where
   abbrev old : State
@@ -117,7 +117,7 @@ module _ (net : Network) (usable : IsUsable net) (distinct : HasDistinctAddresse
 
   has_heard : HasHeard net distinct mid known router (max h.moves.old.last now) (prefix_named update.entry) iface (address_at net h.sent.router h.sent.iface) (map_of.get hears.table (prefix_named update.entry))
   has_heard =
-      hearing_here net distinct mid known fits router n hearing h.sent.router h.sent.iface near (le_refl n) told_at old.table rows hears.table hears.heard memory update.stands.0 update.entry listed
+      hearing_here net distinct mid known fits router n hearing h.sent.router h.sent.iface near (le_refl n) told_at old.table rows o.node o.node_is o.config_is hears.table hears.heard memory update.stands.0 update.entry listed
 
   pub update_moves : (slice_get v'.states router ≡ Some h.moves.new) × (h.moves.new.last ≡ max h.moves.old.last now)
   update_moves = (ap (λ (xs : List State). slice_get xs router) h.moves.states ∙ set_here v.states router old h.moves.new h.moves.old_is, ap (λ (s : State). s.last) hears.state)
@@ -193,7 +193,7 @@ module _ (net : Network) (usable : IsUsable net) (distinct : HasDistinctAddresse
   update_bounds low =
       subst (λ (s : State). IsAtMost net distinct mid known router n (prefix_named update.entry) (map_of.get old.table (prefix_named update.entry)) (map_of.get s.table (prefix_named update.entry)) (through net router iface update.entry.metric)) (sym hears.state)
       (subst (IsAtMost net distinct mid known router n (prefix_named update.entry) (map_of.get old.table (prefix_named update.entry)) (map_of.get hears.table (prefix_named update.entry))) same_cost
-      (hearing_bound net distinct mid known fits router n hearing h.sent.router h.sent.iface near (le_refl n) told_at old.table rows hears.table hears.heard memory update.stands.0 update.entry listed
+      (hearing_bound net distinct mid known fits router n hearing h.sent.router h.sent.iface near (le_refl n) told_at old.table rows o.node o.node_is o.config_is hears.table hears.heard memory update.stands.0 update.entry listed
       (subst (λ k. k < infinity) (sym same_cost) low)))
     where
       same_cost : min (update.entry.metric + (gateway_of h.moves.old (max h.moves.old.last now) (arrival_of net h.sent iface now)).cost) infinity ≡ through net router iface update.entry.metric

@@ -31,7 +31,7 @@ pub record IsCalmPart (net : Network) (known : Prefix6 → Type 0) (past : Befor
   pub usable : IsUsable net
   pub noisy : IsNeverQuiet net
   pub distinct : HasDistinctAddresses net
-  pub fits : AreFew known
+  pub fits : AreFew net known
   pub begun : IsBegun net past w steps w'
   pub orderly : AllOrderly net known w steps
 

@@ -7,7 +7,7 @@ pub use Rattle.ripng_world.specs.Network.{AreLinked}
 pub use Rattle.ripng_world.specs.Past.{IsBackedSince, OwnsSince}
 pub use Rattle.ripng_world.specs.Rounds.{moment_of, IsMomentOf}
 pub use Rattle.ripng_world.specs.Watching.{EndsAt, telling}
-pub use Rattle.ripng_world.specs.World.{Happens, Restart, Shutdown, LinkDown, LinkUp}
+pub use Rattle.ripng_world.specs.World.{Happens, Restart, Shutdown, LinkDown}
 pub use Rattle.ripng_world.specs.declared.event.Sent.{Sent}
 pub use Rattle.ripng_world.specs.declared.watch.Stopped.{Stopped}
 pub use Rattle.ripng_world.specs.declared.watch.Stopped.TheVariants.{Refused}

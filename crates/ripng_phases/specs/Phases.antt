@@ -1,6 +1,6 @@
 -- Phases: stretches of a network's history in which all that matters gets through once, with no rounds and no common clock.
 use Rattle.std.specs.Prelude.{◌≡◌, ◌≢◌, ℕ, ◌+◌, ◌<◌, ◌≤◌, ◌⊎◌, List, [], ◌∷◌, ◌++◌, map, length, flat_map, All, Contains, Some, slice_get}
-use Rattle.ripng_phases.specs.Below.{garbage_time, Answer, NoMemory, Network, AreLinked, World, Event, Deliver, Tick, Restart, Shutdown, LinkDown, LinkUp, Reconfigure, Happens, Round, IsDueTick, IsMomentOf, moment_of, router_of, Sent}
+use Rattle.ripng_phases.specs.Below.{garbage_time, Answer, NoMemory, Network, AreLinked, World, Event, Deliver, Tick, Restart, Shutdown, LinkDown, Reconfigure, Happens, Round, IsDueTick, IsMomentOf, moment_of, router_of, Sent}
 
 -- ---- what happens in a phase
 
@@ -10,12 +10,12 @@ pub record Step : Type 0 where
   pub answer : Answer
   pub after : World
 
--- it starts no router anew and shuts none down, takes no link down or up, and changes no configuration
+-- it starts no router anew and shuts none down, takes no link down, and changes no configuration. A router may ask its neighbors for
+-- their tables, as when a link comes up: that changes no table (RFC 2080, 2.4.1)
 abbrev pub IsOrdinary : Event → Type 0
 IsOrdinary (Restart router now) = ⊥
 IsOrdinary (Shutdown router now) = ⊥
 IsOrdinary (LinkDown router now on) = ⊥
-IsOrdinary (LinkUp router now on) = ⊥
 IsOrdinary (Reconfigure router now c) = ⊥
 IsOrdinary _ = Unit {0}
 

@@ -1,4 +1,4 @@
-//! Phases are made: by chance, within the rules of a phase.
+//! Phases are made: at random, within the rules of a phase.
 //!
 //! A phase takes a minute by a true clock. First routers tick at random, some of them before their regular update is due, and
 //! datagrams are handed on at random, in the order in which they were sent. Those of no regular update of this phase may be lost.

@@ -3,13 +3,12 @@
 /// Why a phase stops. All earlier events are done.
 #[derive(Clone, Copy, Debug, PartialEq, Eq)]
 pub enum PhaseRefused {
-    /// The regular update of a router is not due before the minute of the phase is over, or before the last moment that
-    /// there is.
+    /// The regular update of a router is not due before the minute of the phase is over, or before the last moment.
     NoUpdateInTime {
         /// The number of the router.
         router: usize,
     },
-    /// The phase would begin past the last moment that there is.
+    /// The phase would begin past the last moment, 2^60 milliseconds.
     PastLastMoment,
     /// Memory was refused, or ran out in a router for a new route.
     OutOfMemory,

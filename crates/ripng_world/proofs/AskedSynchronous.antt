@@ -336,7 +336,7 @@ converging net asks w w' is_net all =
     exact : (moments : List ℕ) (rounds : List Round) → IsCold net moments w → IsNeverQuiet net → FitsTables net → AreMade net w asks rounds w' → AreWithinTimeout rounds → AreConverged net (length asks) w'
     exact moments rounds is noisy fits made close =
         subst (λ k. AreConverged net k w') (as_many net asks rounds w w' made)
-        (converges net is_net.usable is_net.owns_prefixes noisy is_net.distinct fits moments rounds w w' is (made_synchronous net asks rounds w w' all made) close)
+        (converges net is_net.usable is_net.owns_prefixes noisy is_net.distinct is.zoned fits moments rounds w w' is (made_synchronous net asks rounds w w' all made) close)
 
 pub on_ok : {X E : Type 0} (r : Result X E) (P Q : Type 0) → (P → Q) → OnOk r P → OnOk r Q
 on_ok (Ok x) P Q f h = f h

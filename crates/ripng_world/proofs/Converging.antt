@@ -7,7 +7,7 @@ use Rattle.route_table.specs.Route.{RouteValue, infinity}
 use Rattle.route_table.proofs.TableLaws.{Some-same, at_from_entries}
 use Rattle.router_core.specs.Owning.{owned_route}
 use Rattle.router_core.specs.Machine.{State, started, owned_table}
-use Rattle.ripng_world.specs.Network.{Network, Node, config_of, Owns, OwnsPrefixes, HasDistinctAddresses}
+use Rattle.ripng_world.specs.Network.{Network, Node, config_of, Owns, OwnsPrefixes, AreZoned, HasDistinctAddresses}
 use Rattle.ripng_world.specs.Walks.{Hop, Reaches}
 use Rattle.ripng_world.specs.World.{World, IsCold}
 use Rattle.ripng_world.specs.Rounds.{Round, SynchronousRounds, AreWithinTimeoutAfter, AreWithinTimeout, IsMomentOf}
@@ -54,12 +54,12 @@ converged net k moments w settled router s is =
             subst (λ (x : RouteValue). x.metric ≤ metric) (one_route w router p q.0 r q.1 (s, is, at)) q.2
         by_size (inr large) = above r.metric metric low large
 
-module _ (net : Network) (usable : IsUsable net) (owns : OwnsPrefixes net) (noisy : IsNeverQuiet net) (distinct : HasDistinctAddresses net) (fits : FitsTables net) where
+module _ (net : Network) (usable : IsUsable net) (owns : OwnsPrefixes net) (noisy : IsNeverQuiet net) (distinct : HasDistinctAddresses net) (zoned : AreZoned net) (fits : FitsTables net) where
   rounds_settle : (rounds : List Round) (k : ℕ) (previous : ℕ → ℕ → Type 0) (w w' : World) → IsSettled net k previous w → AreWithinTimeoutAfter previous rounds → SynchronousRounds net w rounds w' → AreConverged net (k + length rounds) w'
   rounds_settle [] k previous w w' settled close is = subst (λ n. AreConverged net n w') (sym (add-zero k)) (subst (AreConverged net k) (sym is) (converged net k previous w settled))
   rounds_settle (round ∷ rounds) k previous w w' settled close run =
       subst (λ n. AreConverged net n w') (shifted k (length rounds))
-      (rounds_settle rounds (suc k) (IsMomentOf round) run.0 w' (next_settled net usable owns noisy distinct fits k previous w run.0 settled round run.1 close.0) close.1 run.2)
+      (rounds_settle rounds (suc k) (IsMomentOf round) run.0 w' (next_settled net usable owns noisy distinct zoned fits k previous w run.0 settled round run.1 close.0) close.1 run.2)
     where
       shifted : (a b : ℕ) → suc a + b ≡ a + suc b
       shifted a b = omega arith

@@ -15,10 +15,10 @@ abbrev local : ℕ → ℕ
 local n = 0xfe80_0000_0000_0000_0000_0000_0000_0000 + n
 
 abbrev interface : ℕ → ℕ → NetInterface
-interface n link = record { interface = record { addr = local n; cost = 1; mtu = 1500 }; link = link }
+interface n link = record { interface = record { addr = local n; cost = 1; mtu = 1500; zone = 0 }; link = link }
 
 abbrev gateway : ℕ → ℕ → Node
-gateway n link = record { interfaces = interface 1 link ∷ interface n 3 ∷ []; prefixes = []; quiet = false }
+gateway n link = record { interfaces = interface 1 link ∷ interface n 3 ∷ []; prefixes = []; quiet = false; filters = []; limits = [] }
 
 abbrev pub gateways : Network
 gateways = gateway 17 1 ∷ gateway 18 2 ∷ []
@@ -51,7 +51,7 @@ distinct =
       on_links = λ r i s j l same.
           let one : (r, i) ≡ (s, j) = sym (placed r i l.here l.here_is) ∙ ap₂ place_of l.same_link same ∙ placed s j l.there l.there_is in
           (ap (λ (t : ℕ × ℕ). t.0) one, ap (λ (t : ℕ × ℕ). t.1) one);
-      of_neighbors = λ r i k s j own is l same.
+      of_neighbors = λ r i k s j own is l zone same.
           each (λ s j there. l.here.link ≡ there.link → own.interface.addr ≡ there.interface.addr → r ≡ s)
           (λ link addr. at_link_1 r k l.here l.here_is link) (λ link addr. with_17 r i own is addr)
           (λ link addr. at_link_2 r k l.here l.here_is link) (λ link addr. with_18 r i own is addr)

@@ -24,7 +24,7 @@ use Rattle.router_core.specs.declared.arrival.Fault.{Fault}
 use Rattle.router_core.specs.declared.answer.NoteKind.TheVariants.{NoMemory}
 use Rattle.router_core.proofs.HearingSteps.{at_place}
 use Rattle.ripng_world.specs.declared.event.Sent.{Sent}
-use Rattle.ripng_world.specs.Network.{Network, Node, config_of, AreLinked, HasDistinctAddresses, IsUsable}
+use Rattle.ripng_world.specs.Network.{Network, Node, config_of, AreLinked, AreZoned, HasDistinctAddresses, IsUsable}
 use Rattle.ripng_world.specs.Truth.{IsNeighbor}
 use Rattle.ripng_world.specs.World.{World, Event, Deliver, Stranger, Tick, Restart, Shutdown, LinkDown, LinkUp, Reconfigure, RouterMoves, Delivers, address_at, arrival_of}
 use Rattle.ripng_world.specs.Rounds.{router_of, moment_of, IsDeliveryOf, AllHeard}
@@ -36,7 +36,7 @@ use Rattle.ripng_world.proofs.RoundNeighbors.{state_after, set_here, state_befor
 use Rattle.ripng_world.proofs.HealRows.{IsRow, IsAtMost, HasHeard, IsPart, through, part_refl, part_trans}
 use Rattle.ripng_world.proofs.HealHearing.{AreFew, IsToldLine, hearing_part, hearing_here, hearing_bound}
 
-module _ (net : Network) (usable : IsUsable net) (distinct : HasDistinctAddresses net) (mid : World) (known : Prefix6 → Type 0) (fits : AreFew known) (current : ℕ → ℕ → Type 0)
+module _ (net : Network) (usable : IsUsable net) (distinct : HasDistinctAddresses net) (zoned : AreZoned net) (mid : World) (known : Prefix6 → Type 0) (fits : AreFew net known) (current : ℕ → ℕ → Type 0)
     (close : (router now : ℕ) (old : State) → current router now → slice_get mid.states router ≡ Some old → now < old.last + garbage_time) where
   abbrev pub RowOf : ℕ → State → State → Type 0
   RowOf router old s = (p : Prefix6) → IsRow net distinct mid known router old.last p (map_of.get old.table p) (map_of.get s.table p)
@@ -105,7 +105,7 @@ module _ (net : Network) (usable : IsUsable net) (distinct : HasDistinctAddresse
         after o l m h = omega arith
 
     pub heard_part : (p : Prefix6) → IsPart net distinct mid known router t.old.last p (map_of.get t.old.table p) (map_of.get s.table p) (map_of.get hears.table p)
-    heard_part p = hearing_part net distinct mid known fits router t.old.last h d.router d.iface near it_is_later all_told t.old.table t.rows hears.table hears.heard memory p
+    heard_part p = hearing_part net distinct mid known fits router t.old.last h d.router d.iface near it_is_later all_told t.old.table t.rows t.node t.node_is t.config_is hears.table hears.heard memory p
 
     pub heard_state : IsHearing router (record s { table = hears.table; last = max s.last now })
     unfolding waited
@@ -134,10 +134,10 @@ module _ (net : Network) (usable : IsUsable net) (distinct : HasDistinctAddresse
     heard_entry e a =
         let listed : slice_get h.entries a.0 ≡ Some e = ap (λ es. slice_get es a.0) (sym same_entries) ∙ a.1 in
         let same : metric_through h.gateway (offer_at h.config h.gateway.from h.entries a.0 e) ≡ through net router iface e.metric = ap (λ c. min (e.metric + c) infinity) near.cost in (
-          hearing_here net distinct mid known fits router t.old.last h d.router d.iface near it_is_later all_told t.old.table t.rows hears.table hears.heard memory a.0 e listed,
+          hearing_here net distinct mid known fits router t.old.last h d.router d.iface near it_is_later all_told t.old.table t.rows t.node t.node_is t.config_is hears.table hears.heard memory a.0 e listed,
           λ low.
               subst (IsAtMost net distinct mid known router t.old.last (prefix_named e) (map_of.get t.old.table (prefix_named e)) (map_of.get hears.table (prefix_named e))) same
-              (hearing_bound net distinct mid known fits router t.old.last h d.router d.iface near it_is_later all_told t.old.table t.rows hears.table hears.heard memory a.0 e listed
+              (hearing_bound net distinct mid known fits router t.old.last h d.router d.iface near it_is_later all_told t.old.table t.rows t.node t.node_is t.config_is hears.table hears.heard memory a.0 e listed
               (subst (λ n. n < infinity) (sym same) low)),
         )
 
@@ -269,7 +269,7 @@ module _ (net : Network) (usable : IsUsable net) (distinct : HasDistinctAddresse
           clash : true ≡ false → ⊥
           clash e = cc
       delivered None true none response hears =
-          heard_by (is_another net d.sent router iface old state.node state.node_is state.config_is d.linked (not_own old.config x none response)) hears
+          heard_by (is_another net zoned d.sent router iface old state.node state.node_is state.config_is d.linked (not_own old.config x none response)) hears
       delivered (Some why) true none response refuses =
           let done = stayed (max old.last now) refl refuses.state in
           record { hearing = done.0; steps = done.1; heard = none_left }

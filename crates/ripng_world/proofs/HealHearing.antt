@@ -17,26 +17,28 @@ use Rattle.route_table.specs.Table.{Table, table_limit}
 use Rattle.route_table.proofs.TableLaws.{Some-same, None-Some}
 use Rattle.router_core.specs.Offers.{Offer, offer_at, is_offer, flaw, prefix_named}
 use Rattle.router_core.specs.Adoption.{adopted, metric_through}
-use Rattle.router_core.specs.Hearing.{Hearing, Heard, route_after, is_refused, is_refusal, note_at, would_add, held_after, notes_of_offer, notes_of_new}
+use Rattle.router_core.specs.Hearing.{Hearing, Heard, route_after, is_refused, is_refusal, note_at, would_add, held_after, notes_of_offer, notes_by_refusal, notes_of_new, refusal_at}
 use Rattle.router_core.specs.Output.{is_learned_on}
 use Rattle.router_core.specs.declared.answer.Note.{Note}
 use Rattle.router_core.specs.declared.answer.NoteKind.{NoteKind}
 use Rattle.router_core.specs.declared.answer.NoteKind.TheVariants.{TableFull, NoMemory, BadLength, BadPrefix, BadMetric}
 use Rattle.router_core.proofs.HearingSteps.{heard_one, before_all, after_one, at_place, table_after}
-use Rattle.ripng_world.specs.Network.{Network, HasDistinctAddresses}
+use Rattle.ripng_world.specs.Network.{Network, Node, config_of, HasDistinctAddresses}
+use Rattle.ripng_world.specs.Convergence.{AreTaken}
 use Rattle.ripng_world.specs.Truth.{IsNeighbor}
 use Rattle.ripng_world.specs.World.{World}
 use Rattle.ripng_world.proofs.Improving.{RouteAt}
-use Rattle.ripng_world.proofs.RoundHearing.{IsIn, in_from_contains, few_routes}
+use Rattle.ripng_world.proofs.Room.{IsIn, in_from_contains, few_routes, not_kept_out}
 use Rattle.ripng_world.proofs.HealRows.{IsTold, IsRow, IsRowOf, IsAtMost, HasHeard, IsPart, IsOffered, part_refl, part_trans, offered}
 
--- the prefixes that are spoken of: few, and each a prefix that may be told
-pub record AreFew (known : Prefix6 → Type 0) : Type 0 where
+-- the prefixes that are spoken of: few, and each a prefix that may be told and that no filter or limit keeps out
+pub record AreFew (net : Network) (known : Prefix6 → Type 0) : Type 0 where
   pub owned : List Prefix6
   pub few : length owned ≤ table_limit
   pub all : (p : Prefix6) → known p → Contains owned p
   pub prefixes : (p : Prefix6) → known p → IsPrefix p
   pub routable : (p : Prefix6) → known p → is_routable p ≡ true
+  pub taken : AreTaken net known (length owned)
 
 -- an entry tells a route that the sender has after the ticks
 pub record IsToldLine (net : Network) (mid : World) (known : Prefix6 → Type 0) (sender sender_iface : ℕ) (e : Rte) : Type 0 where
@@ -47,10 +49,11 @@ pub record IsToldLine (net : Network) (mid : World) (known : Prefix6 → Type 0)
   pub in_range : route.metric ≤ infinity
   pub metric : e.metric ≡ cond (is_learned_on sender_iface route.origin) infinity route.metric
 
-module _ (net : Network) (distinct : HasDistinctAddresses net) (mid : World) (known : Prefix6 → Type 0) (fits : AreFew known) (router since : ℕ)
+module _ (net : Network) (distinct : HasDistinctAddresses net) (mid : World) (known : Prefix6 → Type 0) (fits : AreFew net known) (router since : ℕ)
     (h : Hearing) (sender sender_iface : ℕ) (near : IsNeighbor net router h.gateway sender sender_iface) (later : since ≤ h.gateway.moment)
     (told : (place : ℕ) (e : Rte) → slice_get h.entries place ≡ Some e → IsToldLine net mid known sender sender_iface e)
-    (start : Table) (rows : (p : Prefix6) → IsRow net distinct mid known router since p (map_of.get start p) (map_of.get h.before p)) where
+    (start : Table) (rows : (p : Prefix6) → IsRow net distinct mid known router since p (map_of.get start p) (map_of.get h.before p))
+    (node : Node) (node_is : slice_get net router ≡ Some node) (config_is : h.config ≡ config_of node) where
   abbrev Row : Prefix6 → Option RouteValue → Type 0
   Row p b = IsRow net distinct mid known router since p (map_of.get start p) b
 
@@ -130,11 +133,14 @@ module _ (net : Network) (distinct : HasDistinctAddresses net) (mid : World) (kn
 
   -- ---- no new route is refused
 
+  known_at : (place : ℕ) → place ≤ length h.entries → (p : Prefix6) (r : RouteValue) → route_after h place p ≡ Some r → IsIn p fits.owned
+  known_at place within p r is =
+      let row : IsRowOf net distinct mid known router since p (map_of.get start p) r = subst (Row p) is (steps_to place within p).row in
+      in_from_contains fits.owned p (fits.all p row.is_known)
+
   keys_known : (place : ℕ) → place ≤ length h.entries → (t : Table) → ((p : Prefix6) → map_of.get t p ≡ route_after h place p)
       → (p : Prefix6) (r : RouteValue) → map_of.get t p ≡ Some r → IsIn p fits.owned
-  keys_known place within t same p r is =
-      let row : IsRowOf net distinct mid known router since p (map_of.get start p) r = subst (Row p) (sym (same p) ∙ is) (steps_to place within p).row in
-      in_from_contains fits.owned p (fits.all p row.is_known)
+  keys_known place within t same p r is = known_at place within p r (sym (same p) ∙ is)
 
   room : (place : ℕ) (e : Rte) → place ≤ length h.entries → slice_get h.entries place ≡ Some e → route_after h place (prefix_named e) ≡ None → held_after h place < table_limit
   room place e within is none =
@@ -177,6 +183,11 @@ module _ (net : Network) (distinct : HasDistinctAddresses net) (mid : World) (kn
       passes : nat_lt 128 e.len ≡ false → not (is_routable (prefix_named e)) ≡ false → (e.metric == 0 || nat_lt 16 e.metric) ≡ false → flaw e ≡ None
       passes a b c = ap₂ (λ x y. cond x (Some BadLength) (cond y (Some BadPrefix) (cond (e.metric == 0 || nat_lt 16 e.metric) (Some BadMetric) None))) a b ∙ ap (λ z. cond z (Some BadMetric) None) c
 
+  taken_in : (place : ℕ) (e : Rte) → place ≤ length h.entries → slice_get h.entries place ≡ Some e → refusal_at h place e ≡ None
+  taken_in place e within is =
+      let k = (told place e is).is_known in
+      not_kept_out h net router node node_is config_is known fits.owned fits.taken place within (known_at place within) e k (in_from_contains fits.owned (prefix_named e) (fits.all (prefix_named e) k))
+
   module _ (after : Table) (heard : Heard h after) (memory : All (λ n. n.kind ≢ NoMemory) h.notes) where
     found_kind : (notes : List Note) → AllByRecursion (λ n. n.kind ≢ NoMemory) notes → (test : Note → Bool) → option_map (λ n. n.kind) (find test notes) ≡ Some NoMemory → ⊥
     found_kind [] all test is = absurd (None-Some NoMemory is)
@@ -206,7 +217,7 @@ module _ (net : Network) (distinct : HasDistinctAddresses net) (mid : World) (kn
         let o = is_offered place e is in
         let allowed : Contains (cond (would_add h place e) (notes_of_new h place) (None ∷ [])) (note_at h place) =
         subst (λ (a : List (Option NoteKind)). Contains a (note_at h place))
-        (ap₂ (λ b f. cond b (None ∷ []) (notes_of_offer h place e f)) o.0 o.1) (heard.noted place e is) in
+        (ap₂ (λ b f. cond b (None ∷ []) (notes_of_offer h place e f)) o.0 o.1 ∙ ap (notes_by_refusal h place e) (taken_in place e within is)) (heard.noted place e is) in
         by_adding (would_add h place e) refl allowed
       where
         by_adding : (b : Bool) → would_add h place e ≡ b → Contains (cond b (notes_of_new h place) (None ∷ [])) (note_at h place) → is_refusal (note_at h place) ≡ false

@@ -12,7 +12,7 @@ use Rattle.route_table.proofs.TableLaws.{Some-same}
 use Rattle.router_core.specs.Timers.{garbage_time}
 use Rattle.router_core.specs.Machine.{State}
 use Rattle.ripng_world.specs.declared.network.NetInterface.{NetInterface}
-use Rattle.ripng_world.specs.Network.{Network, HasDistinctAddresses, IsUsable, interface_at}
+use Rattle.ripng_world.specs.Network.{Network, AreZoned, HasDistinctAddresses, IsUsable, interface_at}
 use Rattle.ripng_world.specs.Walks.{BeginsAs, Hop, Reaches, IsLeast, cost, cost_of_interface}
 use Rattle.ripng_world.specs.Convergence.{IsNeverQuiet}
 use Rattle.ripng_world.specs.Healing.{IsTickOf, AreWithinGarbageTimeAfter, IsLed, IsHealed, AreHealed}
@@ -49,7 +49,7 @@ abbrev pub AreSoon : World → (ℕ → ℕ → Type 0) → (ℕ → ℕ → Typ
 AreSoon w recent before =
     (router : ℕ) (s : State) (e : ℕ) → slice_get w.states router ≡ Some s → recent router e → (s.last < e + garbage_time) × ((x : ℕ) × before router x × (x ≤ e))
 
-module _ (net : Network) (usable : IsUsable net) (noisy : IsNeverQuiet net) (distinct : HasDistinctAddresses net) (known : Prefix6 → Type 0) (fits : AreFew known) where
+module _ (net : Network) (usable : IsUsable net) (noisy : IsNeverQuiet net) (distinct : HasDistinctAddresses net) (zoned : AreZoned net) (known : Prefix6 → Type 0) (fits : AreFew net known) where
   positive : (router iface : ℕ) (here : NetInterface) → interface_at net router iface ≡ Some here → 1 ≤ cost_of_interface net router iface
   positive router iface here is =
       subst (λ (o : Option NetInterface). 1 ≤ unwrap_or (option_map (λ i. i.interface.cost) o) infinity) (sym is) (usable.costs router iface here is).0
@@ -81,7 +81,7 @@ module _ (net : Network) (usable : IsUsable net) (noisy : IsNeverQuiet net) (dis
     plain router s is = let t = steady.states router s is in record { node = t.node; node_is = t.node_is; config_is = t.config_is; rows = t.plain }
 
     did : IsRoundOf net distinct known w mid w' round
-    did = round_done net usable noisy distinct known fits w w' round synchronous close plain
+    did = round_done net usable noisy distinct zoned known fits w w' round synchronous close plain
 
     near : (router : ℕ) (s : State) (now e : ℕ) → slice_get w.states router ≡ Some s → IsTickOf round router now → recent router e → max s.last now < e + garbage_time
     near router s now e is tick recently =

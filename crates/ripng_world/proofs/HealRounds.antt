@@ -16,7 +16,7 @@ use Rattle.router_core.specs.Timers.{garbage_time}
 use Rattle.router_core.specs.Machine.{State, Happening}
 use Rattle.router_core.specs.declared.answer.Answer.{Answer}
 use Rattle.ripng_world.specs.declared.event.Sent.{Sent}
-use Rattle.ripng_world.specs.Network.{Network, Node, AreLinked, HasDistinctAddresses, IsUsable, config_of}
+use Rattle.ripng_world.specs.Network.{Network, Node, AreLinked, AreZoned, HasDistinctAddresses, IsUsable, config_of}
 use Rattle.ripng_world.specs.Convergence.{IsNeverQuiet}
 use Rattle.ripng_world.specs.Healing.{IsTickOf}
 use Rattle.ripng_world.specs.World.{World, Event, Deliver, Stranger, Tick, Restart, Shutdown, LinkDown, LinkUp, Reconfigure, RouterMoves, Happens, address_at}
@@ -108,7 +108,7 @@ pub record IsRoundOf (net : Network) (distinct : HasDistinctAddresses net) (know
   pub told : (teller iface' : ℕ) (p : Prefix6) (q : RouteValue) → RouteAt mid teller p q → (router iface : ℕ) → AreLinked net teller iface' router iface → router ≢ teller
       → HasHeardOf net distinct mid known w' router p iface (address_at net teller iface') (cond (is_learned_on iface' q.origin) infinity q.metric)
 
-module _ (net : Network) (usable : IsUsable net) (noisy : IsNeverQuiet net) (distinct : HasDistinctAddresses net) (known : Prefix6 → Type 0) (fits : AreFew known)
+module _ (net : Network) (usable : IsUsable net) (noisy : IsNeverQuiet net) (distinct : HasDistinctAddresses net) (zoned : AreZoned net) (known : Prefix6 → Type 0) (fits : AreFew net known)
     (w w' : World) (round : Round) (synchronous : IsSynchronousRound net w round w')
     (close : (router x y : ℕ) → IsTickOf round router x → IsMomentOf round router y → y < x + garbage_time)
     (plain : (router : ℕ) (s : State) → slice_get w.states router ≡ Some s → IsPlain net usable noisy known fits synchronous.after_ticks router s) where
@@ -158,9 +158,9 @@ module _ (net : Network) (usable : IsUsable net) (noisy : IsNeverQuiet net) (dis
       below l x y n h e = omega arith
 
   abbrev pub Hearing' : ℕ → State → Type 0
-  Hearing' router s = IsHearing net usable distinct mid known fits current soon router s
+  Hearing' router s = IsHearing net usable distinct zoned mid known fits current soon router s
 
-  begins : AreHearing net usable distinct mid known fits current soon w.sent ticks.new ticks.all_updates mid
+  begins : AreHearing net usable distinct zoned mid known fits current soon w.sent ticks.new ticks.all_updates mid
   begins =
       record {
         states = λ router t is. begin_state router t is (ticks.plain router t is);
@@ -195,9 +195,9 @@ module _ (net : Network) (usable : IsUsable net) (noisy : IsNeverQuiet net) (dis
             soon = more t.last;
           }
 
-  delivered : AreDelivered net usable distinct mid known fits current soon w.sent ticks.new ticks.all_updates mid w' round.deliveries
+  delivered : AreDelivered net usable distinct zoned mid known fits current soon w.sent ticks.new ticks.all_updates mid w' round.deliveries
   delivered =
-      deliveries_done net usable distinct mid known fits current soon w.sent ticks.new ticks.all_updates round.deliveries mid w' begins (delivery_moments round)
+      deliveries_done net usable distinct zoned mid known fits current soon w.sent ticks.new ticks.all_updates round.deliveries mid w' begins (delivery_moments round)
       (recursion_from_All (IsDeliveryOf (length w.sent) (length (w.sent ++ ticks.new))) round.deliveries
       (subst (λ (ds : List Sent). All (IsDeliveryOf (length w.sent) (length ds)) round.deliveries) ticks.sent_is synchronous.only_these))
       synchronous.all_heard
@@ -206,7 +206,7 @@ module _ (net : Network) (usable : IsUsable net) (noisy : IsNeverQuiet net) (dis
   hearing router s is = delivered.hearing.states router s is
 
   abbrev pub DoneAt : ℕ → Prefix6 → ℕ → ℕ → ℕ → Type 0
-  DoneAt router p iface from metric = IsDoneAt net usable distinct mid known fits current soon w.sent ticks.new ticks.all_updates w' router p iface from metric
+  DoneAt router p iface from metric = IsDoneAt net usable distinct zoned mid known fits current soon w.sent ticks.new ticks.all_updates w' router p iface from metric
 
   -- what a router has after its tick has been heard by its neighbors
   pub heard_from : (teller iface' : ℕ) (p : Prefix6) (q : RouteValue) → RouteAt mid teller p q → (router iface : ℕ) (linked : AreLinked net teller iface' router iface) → router ≢ teller
@@ -223,7 +223,7 @@ module _ (net : Network) (usable : IsUsable net) (noisy : IsNeverQuiet net) (dis
       let other' : router ≢ x.sent.router = λ same. other (same ∙ x.by_router) in
       let sent = synchronous.each_delivered place.0 router iface x.sent place.1 (ap (λ (ds : List Sent). slice_get ds place.0) ticks.sent_is ∙ place.2) linked' (inl other') in
       let event = at_from_contains round.deliveries (Deliver place.0 router iface sent.0) sent.1 in
-      let has = each_at_place (HasHeardEvent net usable distinct mid known fits current soon w.sent ticks.new ticks.all_updates w') round.deliveries delivered.heard event.0 (Deliver place.0 router iface sent.0) event.1 in
+      let has = each_at_place (HasHeardEvent net usable distinct zoned mid known fits current soon w.sent ticks.new ticks.all_updates w') round.deliveries delivered.heard event.0 (Deliver place.0 router iface sent.0) event.1 in
       let b : DoneAt router (prefix_named x.entry) iface (address_at net x.sent.router x.sent.iface) x.entry.metric =
       has x.sent place.2 linked' other' x.entries x.spelled x.entry x.in_entries in
       subst (λ m. DoneAt router p iface (address_at net teller iface') m) x.metric

@@ -39,7 +39,7 @@ use Rattle.ripng_world.proofs.Improving.{RouteAt}
 use Rattle.ripng_world.proofs.HealPlain.{IsPlainRow, IsTicked, Tells}
 use Rattle.ripng_world.proofs.HealHearing.{AreFew, IsToldLine}
 
-module _ (net : Network) (usable : IsUsable net) (noisy : IsNeverQuiet net) (known : Prefix6 → Type 0) (fits : AreFew known) (mid : World) where
+module _ (net : Network) (usable : IsUsable net) (noisy : IsNeverQuiet net) (known : Prefix6 → Type 0) (fits : AreFew net known) (mid : World) where
   pub record IsPlain (router : ℕ) (s : State) : Type 0 where
     pub node : Node
     pub node_is : slice_get net router ≡ Some node

@@ -29,7 +29,7 @@ use Rattle.ripng_world.proofs.Each.{each_at_place}
 use Rattle.ripng_world.proofs.HealHearing.{AreFew}
 use Rattle.ripng_world.proofs.HealStates.{IsSteady, IsSteadyBy}
 use Rattle.ripng_world.proofs.HealMany.{AreToGateways, IsToGateway, heals}
-use Rattle.ripng_world.proofs.NetworkNow.{AreAlike, alike_back, linked_alike, now_alike, now_lawful, place_of, IsLawfulChange}
+use Rattle.ripng_world.proofs.NetworkNow.{AreAlike, alike_back, linked_alike, now_alike, now_lawful, now_zoned, place_of, taken_alike, IsLawfulChange}
 use Rattle.ripng_world.proofs.Reached.{IsKnown, IsReachedBy}
 use Rattle.ripng_world.proofs.ReachedRuns.{AreReached, IsReachedState}
 use Rattle.ripng_world.proofs.ReachedWorlds.{reached_from_cold}
@@ -41,9 +41,9 @@ use Rattle.ripng_world.proofs.WorldRuns.{run_from_cold}
 module _ (net other : Network) (same : AreAlike net other) where
   address_alike : (router iface : ℕ) → address_at net router iface ≡ address_at other router iface
   address_alike router iface =
-      sym (of_place (interface_at net router iface)) ∙ ap (λ o. unwrap_or (option_map (λ (t : ℕ × ℕ × ℕ). t.1) o) 0) (sym (same.places router iface)) ∙ of_place (interface_at other router iface)
+      sym (of_place (interface_at net router iface)) ∙ ap (λ o. unwrap_or (option_map (λ (t : ℕ × ℕ × ℕ × ℕ). t.1) o) 0) (sym (same.places router iface)) ∙ of_place (interface_at other router iface)
     where
-      of_place : (o : Option NetInterface) → unwrap_or (option_map (λ (t : ℕ × ℕ × ℕ). t.1) (option_map place_of o)) 0 ≡ unwrap_or (option_map (λ (i : NetInterface). i.interface.addr) o) 0
+      of_place : (o : Option NetInterface) → unwrap_or (option_map (λ (t : ℕ × ℕ × ℕ × ℕ). t.1) (option_map place_of o)) 0 ≡ unwrap_or (option_map (λ (i : NetInterface). i.interface.addr) o) 0
       of_place None = refl
       of_place (Some i) = refl
 
@@ -135,7 +135,7 @@ module _ (net : Network) (is_net : IsNetwork net) (w : World) (all : AreReached 
   abbrev Known : Prefix6 → Type 0
   Known = IsKnown (past_of net w)
 
-  few : AreFew (IsKnown (past_of net w))
+  few : AreFew (network_now (past_of net w)) (IsKnown (past_of net w))
   few =
       record {
         owned = fits.0;
@@ -143,6 +143,7 @@ module _ (net : Network) (is_net : IsNetwork net) (w : World) (all : AreReached 
         all = λ p k. fits.2 k.0 p k.1 k.2;
         prefixes = λ p k. (lawful p k).0;
         routable = λ p k. (lawful p k).1;
+        taken = taken_alike net (network_now (past_of net w)) (now_alike w.reconfigurations net) (IsKnown (past_of net w)) (length fits.0) fits.3;
       }
     where
       lawful : (p : Prefix6) → IsKnown (past_of net w) p → IsPrefix p × IsTrue (is_routable p)
@@ -194,7 +195,7 @@ module _ (net : Network) (is_net : IsNetwork net) (w : World) (all : AreReached 
       let alike = now_alike w.reconfigurations net in
       let lawful = now_lawful w.reconfigurations net all.lawful is_net in
       subst (λ cs. AreHealed (network_now (record { net = net; reconfigurations = cs })) end) (sym (rounds_keep net rounds w end run))
-      (heals (network_now (past_of net w)) lawful.usable (noisy_alike net (network_now (past_of net w)) alike noisy) lawful.distinct (IsKnown (past_of net w)) few rounds w end steady close
+      (heals (network_now (past_of net w)) lawful.usable (noisy_alike net (network_now (past_of net w)) alike noisy) lawful.distinct (now_zoned w.reconfigurations net all.zoned) (IsKnown (past_of net w)) few rounds w end steady close
       (rounds_alike net (network_now (past_of net w)) alike rounds w end run) many to_gateways)
 
 -- each route has gone to its gateway since it was taken

@@ -7,7 +7,7 @@ use Rattle.std.specs.Result.{result_err}
 use Rattle.std.proofs.lemmas.List.{append-nil, map-append, length-map, length-append, take_more, take_all}
 use Rattle.router_core.specs.Machine.{State, Starts}
 use Rattle.router_core.specs.declared.answer.Answer.{Answer}
-use Rattle.ripng_world.specs.Network.{Network, Node, config_of}
+use Rattle.ripng_world.specs.Network.{Network, Node, AreZoned, config_of}
 use Rattle.ripng_world.specs.World.{World, Event, Happens, WorldRun, IsCold, StartsFrom, past_of, sent_by}
 use Rattle.ripng_world.specs.Stations.{StationValue, network_of, world_of}
 use Rattle.ripng_world.specs.Labs.{LabValue, HasRun, HappensGiving, AreRoutesBacked, AreRoutesBackedSince, HaveNoneBelowLeast, HaveNoneBelowLeastSince, AreDatagramsSoundSince, HoldsFixed, Keeps}
@@ -168,12 +168,13 @@ pub all_listed : (stations : List StationValue) (left all : List Node) → netwo
 all_listed stations [] all listed none = sym (append-nil (network_of stations)) ∙ listed
 all_listed stations (n ∷ left) all listed none = absurd (omega arith)
 
-pub all_cold : (stations : List StationValue) (nodes : List Node) (moments : List ℕ) (sent : List Sent) (n : ℕ) → network_of stations ≡ nodes → length moments ≡ length nodes
+pub all_cold : (stations : List StationValue) (nodes : List Node) (moments : List ℕ) (sent : List Sent) (n : ℕ) → AreZoned nodes → network_of stations ≡ nodes → length moments ≡ length nodes
     → n ≡ length stations → StartsFrom 0 (network_of stations) (take n moments) (map (λ s. s.state) stations) sent → IsCold nodes moments (world_of stations sent [])
-all_cold stations nodes moments sent n are each size from =
+all_cold stations nodes moments sent n zoned are each size from =
     let states = map (λ (s : StationValue). s.state) stations in
     let all : take n moments ≡ moments = take_all n moments (omega (arith, ap length are, length-map stations (λ (s : StationValue). s.node))) in
     record {
+      zoned = zoned;
       starts = subst (λ (ns : List Node). StartsFrom 0 ns moments states sent) are (subst (λ (ms : List ℕ). StartsFrom 0 (network_of stations) ms states sent) all from);
       unchanged = refl;
     }

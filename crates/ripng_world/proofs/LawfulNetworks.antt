@@ -1,41 +1,57 @@
 -- A network that fails no test is one.
 use Rattle.std.proofs.Common.{◌≡◌, ℕ, zero, suc, ◌+◌, ◌<◌, ◌≤◌, ◌==◌, ◌||◌, nat_lt, not, Bool, true, false, cond, List, [], ◌∷◌, ◌++◌, map, take, length, All, Some, None, slice_get, option_map, refl, ap, sym, subst, ◌∙◌, arith}
 use Rattle.std.specs.List.{list_any}
-use Rattle.std.proofs.lemmas.Bool.{eq-eqb}
+use Rattle.std.proofs.lemmas.Bool.{eq-eqb, eqb-true}
 use Rattle.std.proofs.lemmas.Bool.Decides.{nat_tests}
 use Rattle.std.proofs.lemmas.Option.{slice_get-map, slice_get_within, get_or_from_slice_get}
 use Rattle.prefix6.specs.Addr.{is_link_local}
 use Rattle.prefix6.specs.Prefix.{Prefix6, IsPrefix, is_routable}
 use Rattle.ripng_wire.specs.Wire.{first_reason}
 use Rattle.ripng_wire.proofs.FirstReason.{EachPasses, each_passes}
-use Rattle.route_table.proofs.TableLaws.{None-Some}
-use Rattle.router_core.specs.Config.{Config, IsConfig, config_reasons, reasons_of_each, interface_reasons, prefix_reasons}
+use Rattle.route_table.proofs.TableLaws.{Some-same, None-Some}
+use Rattle.router_core.specs.Config.{Config, config_with, IsConfig, config_reasons, reasons_of_each, interface_reasons, prefix_reasons}
+use Rattle.router_core.specs.Filters.{is_accepted, limit_at}
+use Rattle.router_core.specs.declared.filter.Filter.{Filter}
+use Rattle.router_core.specs.declared.filter.Limit.{Limit}
 use Rattle.router_core.specs.declared.config.ConfigRefused.TheVariants.{TooManyPrefixes}
 use Rattle.router_core.specs.declared.config.Interface.{Interface}
 use Rattle.router_core.specs.Config.{owned_limit}
 use Rattle.router_core.proofs.ConfigLaws.{passes-append, passes_at, cost_low, cost_high, mtu_low, mtu_high}
 use Rattle.router_core.proofs.ReasonsOfEach.{first_reason-append, first_reason-found}
-use Rattle.ripng_world.specs.Network.{Network, Node, IsNetwork, IsUsable, OwnsPrefixes, HasDistinctAddresses, config_of, interface_at}
-use Rattle.ripng_world.specs.NetworkFaults.{addresses, address_reasons, network_fault, network_reasons, router_reasons, router_limit}
+use Rattle.ripng_world.specs.Convergence.{AreTaken}
+use Rattle.ripng_world.specs.Network.{Network, Node, HasNoLists, HaveNoLists, AreZoned, IsNetwork, IsUsable, OwnsPrefixes, HasDistinctAddresses, config_of, interface_at}
+use Rattle.ripng_world.specs.NetworkFaults.{addresses, address_reasons, names_zone, network_fault, network_reasons, router_reasons, router_limit}
 use Rattle.ripng_world.specs.declared.network.NetInterface.{NetInterface}
 use Rattle.ripng_world.specs.declared.network.NetRefused.{NetRefused}
-use Rattle.ripng_world.specs.declared.network.NetRefused.TheVariants.{TooManyRouters}
+use Rattle.ripng_world.specs.declared.network.NetRefused.TheVariants.{TooManyRouters, ZoneNamed}
 use Rattle.ripng_world.proofs.Members.{At, at_flat, get_left, get_past}
 use Rattle.ripng_world.proofs.StationMoves.{then_of}
 
 -- ---- which test fails first
 
 module _ (net : Network) (few : length net ≤ router_limit) where
-  counted : network_fault net ≡ first_reason (reasons_of_each router_reasons net ++ reasons_of_each address_reasons (addresses net))
-  counted =
-      let fits : nat_lt router_limit (length net) ≡ false = grind (arith, nat_tests, few) in
-      ap (λ b. cond b (Some TooManyRouters) (first_reason (reasons_of_each router_reasons net ++ reasons_of_each address_reasons (addresses net)))) fits
+  abbrev of_routers : List (Bool × NetRefused)
+  of_routers = reasons_of_each router_reasons net ++ reasons_of_each address_reasons (addresses net)
 
-  pub by_router : (why : NetRefused) → first_reason (reasons_of_each router_reasons net) ≡ Some why → network_fault net ≡ Some why
-  by_router why fails = counted ∙ first_reason-found (reasons_of_each router_reasons net) (reasons_of_each address_reasons (addresses net)) why fails
+  fits : nat_lt router_limit (length net) ≡ false
+  fits = grind (arith, nat_tests, few)
 
-  pub by_addresses : first_reason (reasons_of_each router_reasons net) ≡ None → network_fault net ≡ first_reason (reasons_of_each address_reasons (addresses net))
-  by_addresses pass = counted ∙ first_reason-append (reasons_of_each router_reasons net) (reasons_of_each address_reasons (addresses net)) pass
+  pub by_zone : list_any names_zone net ≡ true → network_fault net ≡ Some ZoneNamed
+  by_zone named =
+      ap (λ b. cond b (Some TooManyRouters) (cond (list_any names_zone net) (Some ZoneNamed) (first_reason of_routers))) fits
+      ∙ ap (λ b. cond b (Some ZoneNamed) (first_reason of_routers)) named
+
+  module _ (unnamed : list_any names_zone net ≡ false) where
+    counted : network_fault net ≡ first_reason (reasons_of_each router_reasons net ++ reasons_of_each address_reasons (addresses net))
+    counted =
+        ap (λ b. cond b (Some TooManyRouters) (cond (list_any names_zone net) (Some ZoneNamed) (first_reason of_routers))) fits
+        ∙ ap (λ b. cond b (Some ZoneNamed) (first_reason of_routers)) unnamed
+
+    pub by_router : (why : NetRefused) → first_reason (reasons_of_each router_reasons net) ≡ Some why → network_fault net ≡ Some why
+    by_router why fails = counted ∙ first_reason-found (reasons_of_each router_reasons net) (reasons_of_each address_reasons (addresses net)) why fails
+
+    pub by_addresses : first_reason (reasons_of_each router_reasons net) ≡ None → network_fault net ≡ first_reason (reasons_of_each address_reasons (addresses net))
+    by_addresses pass = counted ∙ first_reason-append (reasons_of_each router_reasons net) (reasons_of_each address_reasons (addresses net)) pass
 
 -- ---- what each test says
 
@@ -130,19 +146,44 @@ distinct (n ∷ ns) once (suc r) i (suc s) j a b here there same =
     let later = distinct ns rest_once r i s j a b here there same in
     (ap suc later.0, later.1)
 
--- which is more than a network needs
+-- ---- zones
+
+neither : (a b : Bool) → (a || b) ≡ false → (a ≡ false) × (b ≡ false)
+neither true b e = absurd (cc)
+neither false b e = (refl, e)
+
+none_at : {X : Type 0} (test : X → Bool) (xs : List X) (i : ℕ) (x : X) → list_any test xs ≡ false → slice_get xs i ≡ Some x → test x ≡ false
+none_at test [] i x none is = absurd (None-Some x is)
+none_at test (y ∷ ys) zero x none is = ap test (sym (Some-same y x is)) ∙ (neither (test y) (list_any test ys) none).0
+none_at test (y ∷ ys) (suc i) x none is = none_at test ys i x (neither (test y) (list_any test ys) none).1 is
+
+-- where all interfaces are in one zone, as where none is named, each link is in one to each router
+pub zones_of_one : (net : Network) (zone : ℕ) → ((r i : ℕ) (a : NetInterface) → interface_at net r i ≡ Some a → a.interface.zone ≡ zone) → AreZoned net
+zones_of_one net zone all r i j l = all r i l.here l.here_is ∙ sym (all r j l.there l.there_is)
+
+-- ---- filters and limits
+
+-- where there are none, all routes are taken, so that convergence and healing ask only for room
+pub taken_without_lists : (net : Network) → HaveNoLists net → (is_so : Prefix6 → Type 0) (number : ℕ) → AreTaken net is_so number
+taken_without_lists net none is_so number =
+    record {
+      accepted = λ router iface node p is so. ap (λ (fs : List Filter). is_accepted (config_with [] [] false fs []) iface p) (none router node is).0;
+      within = λ router iface limit node is at.
+          absurd (None-Some limit (sym (ap (λ (ls : List Limit). limit_at (config_with [] [] false [] ls) iface) (none router node is).1) ∙ at));
+    }
+
+-- ---- all together: no address twice is more than a network needs
+
 distinct_where_heard : (net : Network) → SharesNoAddress net → HasDistinctAddresses net
 distinct_where_heard net shares =
     record {
       on_links = λ r i s j l same. shares r i s j l.here l.there l.here_is l.there_is same;
-      of_neighbors = λ r i k s j own is l same. (shares r i s j own l.there is l.there_is same).0;
+      of_neighbors = λ r i k s j own is l zone same. (shares r i s j own l.there is l.there_is same).0;
     }
 
--- ---- all together
-
-module _ (net : Network) (none : network_fault net ≡ None) (lawful : All (λ node. IsConfig (config_of node)) net) where
-  config_at : (router : ℕ) (node : Node) → slice_get net router ≡ Some node → IsConfig (config_of node)
-  config_at router node is = subst (λ (n : Node). IsConfig (config_of n)) (get_or_from_slice_get net router node node is) (lawful router node (slice_get_within net router node is))
+module _ (net : Network) (none : network_fault net ≡ None) (lawful : All (λ node. IsConfig (config_of node) × HasNoLists node) net) where
+  config_at : (router : ℕ) (node : Node) → slice_get net router ≡ Some node → IsConfig (config_of node) × HasNoLists node
+  config_at router node is = subst (λ (n : Node). IsConfig (config_of n) × HasNoLists n) (get_or_from_slice_get net router node node is) (lawful router node (slice_get_within net router node is))
 
   -- an interface in the configuration of its router
   record IsConfigured (router iface : ℕ) (i : NetInterface) : Type 0 where
@@ -155,12 +196,12 @@ module _ (net : Network) (none : network_fault net ≡ None) (lawful : All (λ n
       let node = then_of (λ (n : Node). slice_get n.interfaces iface) (slice_get net router) i is in
       record {
         node = node.0;
-        is_config = config_at router node.0 node.1;
+        is_config = (config_at router node.0 node.1).0;
         interface_is = slice_get-map (λ (t : NetInterface). t.interface) (node.0).interfaces iface ∙ ap (option_map (λ (t : NetInterface). t.interface)) node.2;
       }
 
   owned : OwnsPrefixes net
-  owned router p tag o = prefix_is (config_of o.node) (config_at router o.node o.node_is) o.place (p, tag) o.listed
+  owned router p tag o = prefix_is (config_of o.node) (config_at router o.node o.node_is).0 o.place (p, tag) o.listed
 
   usable : IsUsable net
   usable =
@@ -170,7 +211,7 @@ module _ (net : Network) (none : network_fault net ≡ None) (lawful : All (λ n
         local = λ router iface i is. let c = configured router iface i is in interface_local (config_of c.node) c.is_config iface i.interface c.interface_is;
         mtus = λ router iface i is. let c = configured router iface i is in
             (mtu_low (config_of c.node) c.is_config iface i.interface c.interface_is, mtu_high (config_of c.node) c.is_config iface i.interface c.interface_is);
-        routable = λ router p tag o. prefix_routable (config_of o.node) (config_at router o.node o.node_is) o.place (p, tag) o.listed;
+        routable = λ router p tag o. prefix_routable (config_of o.node) (config_at router o.node o.node_is).0 o.place (p, tag) o.listed;
       }
 
   pub is_network : IsNetwork net
@@ -178,6 +219,16 @@ module _ (net : Network) (none : network_fault net ≡ None) (lawful : All (λ n
       record {
         owns_prefixes = owned;
         distinct = distinct_where_heard net (distinct net (no_repeats (addresses net)
-            (passes-append (reasons_of_each router_reasons net) (reasons_of_each address_reasons (addresses net)) (each_passes (network_reasons net) none).1).1));
+            (passes-append (reasons_of_each router_reasons net) (reasons_of_each address_reasons (addresses net)) (each_passes (network_reasons net) none).1.1).1));
         usable = usable;
       }
+
+  -- no interface names a zone
+  pub is_zoned : AreZoned net
+  is_zoned = zones_of_one net 0 (λ router iface i is.
+      let node = then_of (λ (n : Node). slice_get n.interfaces iface) (slice_get net router) i is in
+      let none_of_node : names_zone node.0 ≡ false = none_at names_zone net router node.0 (each_passes (network_reasons net) none).1.0 node.1 in
+      eqb-true i.interface.zone 0 (not_false (i.interface.zone == 0) (none_at (λ (t : NetInterface). not (t.interface.zone == 0)) (node.0).interfaces iface i none_of_node node.2)))
+
+  pub without_lists : HaveNoLists net
+  without_lists router node is = (config_at router node is).1

@@ -7,7 +7,7 @@ use Rattle.std.proofs.Math.Seq.{get_or-append_seam, take-append_seam}
 use Rattle.ripng_wire.specs.Wire.{first_reason}
 use Rattle.router_core.specs.Config.{IsConfig, reasons_of_each}
 use Rattle.router_core.proofs.ReasonsOfEach.{PassesBelow, passes_more, fails_here}
-use Rattle.ripng_world.specs.Network.{Node, config_of}
+use Rattle.ripng_world.specs.Network.{Node, HasNoLists, config_of}
 use Rattle.ripng_world.specs.NetworkFaults.{addresses, faults_of_router, router_reasons}
 use Rattle.ripng_world.specs.declared.network.NetInterface.{NetInterface}
 use Rattle.ripng_world.specs.declared.network.NetRefused.{NetRefused}
@@ -45,8 +45,10 @@ module _ (nodes taken rest : List Node) (node : Node) (n : ℕ) (is : taken ++ n
   next_number : length (take n nodes) ≡ n
   next_number = ap₂ (λ (k : ℕ) (xs : List Node). length (take k xs)) size (sym is) ∙ ap length (take-append_seam taken (node ∷ rest)) ∙ sym size
 
-  pub next_lawful : All (λ m. IsConfig (config_of m)) (take n nodes) → IsConfig (config_of node) → All (λ m. IsConfig (config_of m)) (take (n + 1) nodes)
-  next_lawful all here = All-more (λ m. IsConfig (config_of m)) nodes n node next_within all (subst (λ m. IsConfig (config_of m)) next_is here)
+  pub next_lawful : All (λ m. IsConfig (config_of m) × HasNoLists m) (take n nodes) → IsConfig (config_of node) × HasNoLists node
+      → All (λ m. IsConfig (config_of m) × HasNoLists m) (take (n + 1) nodes)
+  next_lawful all here =
+      All-more (λ m. IsConfig (config_of m) × HasNoLists m) nodes n node next_within all (subst (λ m. IsConfig (config_of m) × HasNoLists m) next_is here)
 
   pub passes_on : PassesBelow router_reasons nodes n → first_reason (faults_of_router n node) ≡ None → PassesBelow router_reasons nodes (n + 1)
   passes_on below passes = passes_more router_reasons nodes n node next_within next_is below (ap (λ (k : ℕ). first_reason (faults_of_router k node)) next_number ∙ passes)

@@ -8,37 +8,47 @@ use Rattle.prefix6.specs.Addr.{is_link_local}
 use Rattle.prefix6.specs.Prefix.{Prefix6, IsPrefix, is_routable, same_prefix}
 use Rattle.route_table.specs.Route.{infinity}
 use Rattle.route_table.proofs.TableLaws.{Some-same, None-Some}
+use Rattle.router_core.specs.Config.{config_with}
+use Rattle.router_core.specs.Filters.{is_accepted, limit_at}
 use Rattle.router_core.specs.Reconfiguring.{with_cost, reconfigured_config}
 use Rattle.router_core.specs.declared.config.Interface.{Interface}
+use Rattle.router_core.specs.declared.filter.Filter.{Filter}
+use Rattle.router_core.specs.declared.filter.Limit.{Limit}
 use Rattle.router_core.specs.declared.reconfiguring.Change.{Change}
 use Rattle.router_core.specs.declared.reconfiguring.Change.TheVariants.{Cost, Own, Disown}
 use Rattle.ripng_world.specs.declared.network.NetInterface.{NetInterface}
+use Rattle.ripng_world.specs.Convergence.{AreTaken}
 use Rattle.ripng_world.specs.Healing.{with_link_cost, reconfigured_node, reconfigured_network, network_now}
-use Rattle.ripng_world.specs.Network.{Network, Node, AreLinked, IsNetwork, Owns, config_of, interface_at}
+use Rattle.ripng_world.specs.Network.{Network, Node, AreLinked, AreZoned, IsNetwork, Owns, config_of, interface_at}
 use Rattle.ripng_world.proofs.Members.{At, split_at}
 use Rattle.ripng_world.proofs.WorldRuns.{get_set, in_node}
 
 -- ---- places
 
 -- where an interface is: what no change touches
-abbrev pub place_of : NetInterface → ℕ × ℕ × ℕ
-place_of i = (i.link, i.interface.addr, i.interface.mtu)
+abbrev pub place_of : NetInterface → ℕ × ℕ × ℕ × ℕ
+place_of i = (i.link, i.interface.addr, i.interface.mtu, i.interface.zone)
 
--- as many routers, each with the same interfaces but for their costs, and as quiet
+-- what keeps routes out of a router
+abbrev lists_of : Node → List Filter × List Limit
+lists_of node = (node.filters, node.limits)
+
+-- as many routers, each with the same interfaces but for their costs, as quiet, and with the same filters and limits
 pub record AreAlike (net other : Network) : Type 0 where
   pub size : length other ≡ length net
   pub places : (router iface : ℕ) → option_map place_of (interface_at other router iface) ≡ option_map place_of (interface_at net router iface)
   pub quiet : (router : ℕ) → option_map (λ (n : Node). n.quiet) (slice_get other router) ≡ option_map (λ (n : Node). n.quiet) (slice_get net router)
+  pub lists : (router : ℕ) → option_map lists_of (slice_get other router) ≡ option_map lists_of (slice_get net router)
 
 pub alike_trans : (a b c : Network) → AreAlike a b → AreAlike b c → AreAlike a c
 alike_trans a b c x y =
-    record { size = y.size ∙ x.size; places = λ r i. y.places r i ∙ x.places r i; quiet = λ r. y.quiet r ∙ x.quiet r }
+    record { size = y.size ∙ x.size; places = λ r i. y.places r i ∙ x.places r i; quiet = λ r. y.quiet r ∙ x.quiet r; lists = λ r. y.lists r ∙ x.lists r }
 
 pub alike_refl : (a : Network) → AreAlike a a
-alike_refl a = record { size = refl; places = λ r i. refl; quiet = λ r. refl }
+alike_refl a = record { size = refl; places = λ r i. refl; quiet = λ r. refl; lists = λ r. refl }
 
 pub alike_back : (a b : Network) → AreAlike a b → AreAlike b a
-alike_back a b x = record { size = sym x.size; places = λ r i. sym (x.places r i); quiet = λ r. sym (x.quiet r) }
+alike_back a b x = record { size = sym x.size; places = λ r i. sym (x.places r i); quiet = λ r. sym (x.quiet r); lists = λ r. sym (x.lists r) }
 
 -- the interface of the other network
 pub record IsPlaced (other : Network) (router iface : ℕ) (i : NetInterface) : Type 0 where
@@ -47,6 +57,7 @@ pub record IsPlaced (other : Network) (router iface : ℕ) (i : NetInterface) : 
   pub link : there.link ≡ i.link
   pub addr : there.interface.addr ≡ i.interface.addr
   pub mtu : there.interface.mtu ≡ i.interface.mtu
+  pub zone : there.interface.zone ≡ i.interface.zone
 
 pub placed : (net other : Network) → AreAlike net other → (router iface : ℕ) (i : NetInterface) → interface_at net router iface ≡ Some i → IsPlaced other router iface i
 placed net other same router iface i is = by_value (interface_at other router iface) refl (same.places router iface ∙ ap (option_map place_of) is)
@@ -55,13 +66,44 @@ placed net other same router iface i is = by_value (interface_at other router if
     by_value None at e = absurd (None-Some (place_of i) e)
     by_value (Some j) at e =
         let f : place_of j ≡ place_of i = Some-same (place_of j) (place_of i) e in
-        record { there = j; there_is = at; link = ap (λ (x : ℕ × ℕ × ℕ). x.0) f; addr = ap (λ (x : ℕ × ℕ × ℕ). x.1) f; mtu = ap (λ (x : ℕ × ℕ × ℕ). x.2) f }
+        record {
+          there = j;
+          there_is = at;
+          link = ap (λ (x : ℕ × ℕ × ℕ × ℕ). x.0) f;
+          addr = ap (λ (x : ℕ × ℕ × ℕ × ℕ). x.1) f;
+          mtu = ap (λ (x : ℕ × ℕ × ℕ × ℕ). x.2) f;
+          zone = ap (λ (x : ℕ × ℕ × ℕ × ℕ). x.3) f;
+        }
 
 pub linked_alike : (net other : Network) → AreAlike net other → (a i b j : ℕ) → AreLinked net a i b j → AreLinked other a i b j
 linked_alike net other same a i b j l =
     let x = placed net other same a i l.here l.here_is in
     let y = placed net other same b j l.there l.there_is in
     record { here = x.there; there = y.there; here_is = x.there_is; there_is = y.there_is; same_link = x.link ∙ l.same_link ∙ sym y.link }
+
+pub zoned_alike : (net other : Network) → AreAlike net other → AreZoned net → AreZoned other
+zoned_alike net other same zoned r i j l =
+    let x = placed other net (alike_back net other same) r i l.here l.here_is in
+    let y = placed other net (alike_back net other same) r j l.there l.there_is in
+    sym x.zone
+    ∙ zoned r i j (record { here = x.there; there = y.there; here_is = x.there_is; there_is = y.there_is; same_link = x.link ∙ l.same_link ∙ sym y.link })
+    ∙ y.zone
+
+pub taken_alike : (net other : Network) → AreAlike net other → (is_so : Prefix6 → Type 0) (number : ℕ) → AreTaken net is_so number → AreTaken other is_so number
+taken_alike net other same is_so number taken =
+    record {
+      accepted = λ router iface node p is so. let t = there router node is in
+          subst (λ (fs : List Filter). is_accepted (config_with [] [] false fs []) iface p ≡ true) (ap (λ (x : List Filter × List Limit). x.0) t.2) (taken.accepted router iface t.0 p t.1 so);
+      within = λ router iface limit node is at. let t = there router node is in
+          taken.within router iface limit t.0 t.1 (ap (λ (x : List Filter × List Limit). limit_at (config_with [] [] false [] x.1) iface) t.2 ∙ at);
+    }
+  where
+    there : (router : ℕ) (node : Node) → slice_get other router ≡ Some node → (old : Node) × (slice_get net router ≡ Some old) × (lists_of old ≡ lists_of node)
+    there router node is = by_value (slice_get net router) refl (sym (same.lists router) ∙ ap (option_map lists_of) is)
+      where
+        by_value : (o : Option Node) → slice_get net router ≡ o → option_map lists_of o ≡ Some (lists_of node) → (old : Node) × (slice_get net router ≡ Some old) × (lists_of old ≡ lists_of node)
+        by_value None at e = absurd (None-Some (lists_of node) e)
+        by_value (Some old) at e = (old, at, Some-same (lists_of old) (lists_of node) e)
 
 -- ---- one change
 
@@ -118,6 +160,11 @@ node_places node (Cost iface cost) j = cost_places node.interfaces iface cost j
 node_places node (Own p tag) j = refl
 node_places node (Disown p) j = refl
 
+node_lists : (node : Node) (c : Change) → lists_of (reconfigured_node node c) ≡ lists_of node
+node_lists node (Cost iface cost) = refl
+node_lists node (Own p tag) = refl
+node_lists node (Disown p) = refl
+
 node_quiet : (node : Node) (c : Change) → (reconfigured_node node c).quiet ≡ node.quiet
 node_quiet node (Cost iface cost) = refl
 node_quiet node (Own p tag) = refl
@@ -168,7 +215,7 @@ node_prefixes node (Own p tag) t a =
 pub changed_alike : (node : Node) (c : Change) → config_of (reconfigured_node node c) ≡ reconfigured_config (config_of node) c
 changed_alike node (Own p tag) = refl
 changed_alike node (Disown p) = refl
-changed_alike node (Cost iface cost) = ap (λ (is : List Interface). record { interfaces = is; prefixes = node.prefixes; quiet = node.quiet }) (by_value (slice_get node.interfaces iface) refl)
+changed_alike node (Cost iface cost) = ap (λ (is : List Interface). config_with is node.prefixes node.quiet node.filters node.limits) (by_value (slice_get node.interfaces iface) refl)
   where
     bare : NetInterface → Interface
     bare i = i.interface
@@ -226,7 +273,7 @@ module _ (net : Network) (router : ℕ) (c : Change) where
           by_place false e = same (slice_get net r)
 
   pub change_alike : AreAlike net (reconfigured_network net (router, c))
-  change_alike = record { size = by_value (slice_get net router); places = places; quiet = quiet }
+  change_alike = record { size = by_value (slice_get net router); places = places; quiet = quiet; lists = lists }
     where
       by_value : (o : Option Node) → length (unwrap_or (option_map (λ node. slice_set net router (reconfigured_node node c)) o) net) ≡ length net
       by_value None = refl
@@ -247,6 +294,14 @@ module _ (net : Network) (router : ℕ) (c : Change) where
           at : (o : Option Node) (b : Bool) → option_map (λ (n : Node). n.quiet) (option_map (λ node. cond b (reconfigured_node node c) node) o) ≡ option_map (λ (n : Node). n.quiet) o
           at None b = refl
           at (Some node) true = ap Some (node_quiet node c)
+          at (Some node) false = refl
+
+      lists : (r : ℕ) → option_map lists_of (slice_get (reconfigured_network net (router, c)) r) ≡ option_map lists_of (slice_get net r)
+      lists r = ap (option_map lists_of) (changed_at r) ∙ at (slice_get net r) (router == r)
+        where
+          at : (o : Option Node) (b : Bool) → option_map lists_of (option_map (λ node. cond b (reconfigured_node node c) node) o) ≡ option_map lists_of o
+          at None b = refl
+          at (Some node) true = ap Some (node_lists node c)
           at (Some node) false = refl
 
   -- a node of the network after it is one of before, or was changed
@@ -283,13 +338,13 @@ module _ (net : Network) (router : ℕ) (c : Change) where
               is_net.distinct.on_links r i s j
               (record { here = x.there; there = y.there; here_is = x.there_is; there_is = y.there_is; same_link = x.link ∙ l.same_link ∙ sym y.link })
               (x.addr ∙ same ∙ sym y.addr);
-          of_neighbors = λ r i k s j own at l same.
+          of_neighbors = λ r i k s j own at l zone same.
               let o = placed (reconfigured_network net (router, c)) net (alike_back net (reconfigured_network net (router, c)) change_alike) r i own at in
               let x = placed (reconfigured_network net (router, c)) net (alike_back net (reconfigured_network net (router, c)) change_alike) r k l.here l.here_is in
               let y = placed (reconfigured_network net (router, c)) net (alike_back net (reconfigured_network net (router, c)) change_alike) s j l.there l.there_is in
               is_net.distinct.of_neighbors r i k s j o.there o.there_is
               (record { here = x.there; there = y.there; here_is = x.there_is; there_is = y.there_is; same_link = x.link ∙ l.same_link ∙ sym y.link })
-              (o.addr ∙ same ∙ sym y.addr);
+              (o.zone ∙ zone ∙ sym x.zone) (o.addr ∙ same ∙ sym y.addr);
         };
         usable = record {
           costs = λ r i a at. costs r i a at;
@@ -336,6 +391,9 @@ now_alike (c ∷ reconfigurations) net =
 pub now_lawful : (reconfigurations : List (ℕ × Change)) (net : Network) → AreLawful reconfigurations → IsNetwork net → IsNetwork (network_now (record { net = net; reconfigurations = reconfigurations }))
 now_lawful [] net lawful is_net = is_net
 now_lawful (c ∷ reconfigurations) net lawful is_net = now_lawful reconfigurations (reconfigured_network net c) lawful.1 (change_lawful net c.0 c.1 lawful.0 is_net)
+
+pub now_zoned : (reconfigurations : List (ℕ × Change)) (net : Network) → AreZoned net → AreZoned (network_now (record { net = net; reconfigurations = reconfigurations }))
+now_zoned reconfigurations net = zoned_alike net (network_now (record { net = net; reconfigurations = reconfigurations })) (now_alike reconfigurations net)
 
 pub now_more : (net : Network) (reconfigurations : List (ℕ × Change)) (c : ℕ × Change) → network_now (record { net = net; reconfigurations = reconfigurations ++ c ∷ [] }) ≡ reconfigured_network (network_now (record { net = net; reconfigurations = reconfigurations })) c
 now_more net reconfigurations c = fold-append reconfigured_network net reconfigurations (c ∷ [])

@@ -22,10 +22,10 @@ abbrev all : Prefix6
 all = record { addr = 0; len = 0 }
 
 abbrev facing : ℕ → NetInterface
-facing addr = record { interface = record { addr = addr; cost = 1; mtu = 1500 }; link = 7 }
+facing addr = record { interface = record { addr = addr; cost = 1; mtu = 1500; zone = 0 }; link = 7 }
 
 abbrev net : Network
-net = record { interfaces = facing 1 ∷ []; prefixes = []; quiet = false } ∷ record { interfaces = facing 2 ∷ []; prefixes = (all, 0) ∷ []; quiet = false } ∷ []
+net = record { interfaces = facing 1 ∷ []; prefixes = []; quiet = false; filters = []; limits = [] } ∷ record { interfaces = facing 2 ∷ []; prefixes = (all, 0) ∷ []; quiet = false; filters = []; limits = [] } ∷ []
 
 abbrev entry : FibHop → Forward
 entry hop = record { hop = hop; metric = 2 }

@@ -7,7 +7,7 @@ use Rattle.ripng_world.specs.Walks.{Hop, end_of}
 use Rattle.ripng_world.specs.declared.network.NetInterface.{NetInterface}
 use Rattle.ripng_world.proofs.NetworkNow.{AreAlike, alike_back, linked_alike, place_of}
 
-address_of_place : (o : Option NetInterface) → option_map (λ (x : ℕ × ℕ × ℕ). x.1) (option_map place_of o) ≡ option_map (λ (i : NetInterface). i.interface.addr) o
+address_of_place : (o : Option NetInterface) → option_map (λ (x : ℕ × ℕ × ℕ × ℕ). x.1) (option_map place_of o) ≡ option_map (λ (i : NetInterface). i.interface.addr) o
 address_of_place None = refl
 address_of_place (Some i) = refl
 
@@ -15,7 +15,7 @@ module _ (net other : Network) (same : AreAlike net other) where
   same_address : (router iface : ℕ) → option_map (λ (i : NetInterface). i.interface.addr) (interface_at other router iface) ≡ option_map (λ (i : NetInterface). i.interface.addr) (interface_at net router iface)
   same_address router iface =
       sym (address_of_place (interface_at other router iface))
-      ∙ ap (option_map (λ (x : ℕ × ℕ × ℕ). x.1)) (same.places router iface)
+      ∙ ap (option_map (λ (x : ℕ × ℕ × ℕ × ℕ). x.1)) (same.places router iface)
       ∙ address_of_place (interface_at net router iface)
 
   leads_alike : (router iface next_hop : ℕ) (h : Hop) → LeadsTo net router iface next_hop h → LeadsTo other router iface next_hop h

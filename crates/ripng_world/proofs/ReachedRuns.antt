@@ -24,7 +24,7 @@ use Rattle.router_core.specs.declared.answer.Answer.{Answer}
 use Rattle.router_core.specs.declared.reconfiguring.Change.{Change}
 use Rattle.router_core.specs.declared.reconfiguring.Change.TheVariants.{Cost, Own, Disown}
 use Rattle.ripng_world.specs.Healing.{network_now}
-use Rattle.ripng_world.specs.Network.{Network, Node, IsNetwork, config_of}
+use Rattle.ripng_world.specs.Network.{Network, Node, AreZoned, IsNetwork, config_of}
 use Rattle.ripng_world.specs.Past.{Past}
 use Rattle.ripng_world.specs.World.{World, RouterMoves, past_of, reconfigurations_of}
 use Rattle.ripng_world.proofs.Growing.{owner_grows}
@@ -190,6 +190,7 @@ pub record IsReachedState (net : Network) (reconfigurations : List (ℕ × Chang
   pub reached : IsReached (record { net = net; reconfigurations = reconfigurations }) s
 
 pub record AreReached (net : Network) (w : World) : Type 0 where
+  pub zoned : AreZoned net
   pub lawful : AreLawful w.reconfigurations
   pub states : (router : ℕ) (s : State) → slice_get w.states router ≡ Some s → IsReachedState net w.reconfigurations router s
   pub everyone : (router : ℕ) (node : Node) → slice_get net router ≡ Some node → (s : State) × (slice_get w.states router ≡ Some s)
@@ -203,6 +204,7 @@ module _ (net : Network) (is_net : IsNetwork net) where
       → AreReached net w'
   moved w w' router happening answer m all lawful new others =
       record {
+        zoned = all.zoned;
         lawful = subst AreLawful (sym m.reconfigurations) lawful;
         states = λ r s is. subst (λ cs. IsReachedState net cs r s) (sym m.reconfigurations)
             (by_router r s (router == r) refl (sym (ap (λ (ss : List State). slice_get ss r) m.states ∙ set_get w.states router m.new m.old m.old_is r) ∙ is));

@@ -151,6 +151,7 @@ module _ (net : Network) (is_net : IsNetwork net) where
   cold_reached moments w cold =
       let both = cold_states 0 net moments w.states w.sent cold.starts in
       record {
+        zoned = cold.zoned;
         lawful = subst AreLawful (sym cold.unchanged) tt;
         states = λ router s is. let t = both.0 router s is in
             subst (λ cs. IsReachedState net cs router s) (sym cold.unchanged)

@@ -26,7 +26,7 @@ use Rattle.router_core.specs.declared.answer.Answer.{Answer}
 use Rattle.router_core.specs.declared.arrival.Fault.{Fault}
 use Rattle.router_core.specs.declared.answer.NoteKind.TheVariants.{NoMemory}
 use Rattle.ripng_world.specs.declared.event.Sent.{Sent}
-use Rattle.ripng_world.specs.Network.{Network, Node, config_of, AreLinked, HasDistinctAddresses}
+use Rattle.ripng_world.specs.Network.{Network, Node, config_of, AreLinked, AreZoned, HasDistinctAddresses}
 use Rattle.ripng_world.specs.Walks.{cost_of_interface}
 use Rattle.ripng_world.specs.Truth.{IsNeighbor}
 use Rattle.router_core.proofs.HearingSteps.{at_place}
@@ -69,7 +69,7 @@ row_refl : (current : ℕ → Type 0) (a : Option RouteValue) → IsRowStep curr
 row_refl current None = tt
 row_refl current (Some r) = (le_refl _, λ i f was. was)
 
-module _ (net : Network) (usable : IsUsable net) (distinct : HasDistinctAddresses net) (fits : FitsTables net) (base : World) (k : ℕ) (both current : ℕ → ℕ → Type 0)
+module _ (net : Network) (usable : IsUsable net) (distinct : HasDistinctAddresses net) (zoned : AreZoned net) (fits : FitsTables net) (base : World) (k : ℕ) (both current : ℕ → ℕ → Type 0)
     (among : (router x : ℕ) → current router x → both router x) (close : (router x y : ℕ) → both router x → current router y → y < x + timeout) where
   -- a router during the deliveries
   pub record IsHearing (router : ℕ) (s : State) : Type 0 where
@@ -125,7 +125,7 @@ module _ (net : Network) (usable : IsUsable net) (distinct : HasDistinctAddresse
     all_told place e is = each_at_place (IsToldEntry net base k d.router d.iface) hears.entries (subst (AllByRecursion (IsToldEntry net base k d.router d.iface)) same_entries u.2) place e is
 
     steps : (p : Prefix6) → IsHeardStep net distinct base k (both router) router s.last h.gateway d.router d.iface near (current router) (among router) now now_of refl (λ x m. close router x now m now_of) p (map_of.get s.table p) (map_of.get hears.table p)
-    steps p = hearing_steps net distinct fits base k (both router) router s.last h d.router d.iface near (current router) (among router) now now_of refl (λ x m. close router x now m now_of) all_told t.fine hears.table hears.heard memory p
+    steps p = hearing_steps net distinct fits base k (both router) router s.last h d.router d.iface near (current router) (among router) now now_of refl (λ x m. close router x now m now_of) all_told t.fine t.node t.node_is t.config_is hears.table hears.heard memory p
 
     pub heard_row : (p : Prefix6) → IsRowStep (current router) (map_of.get s.table p) (map_of.get hears.table p)
     heard_row p = go (map_of.get s.table p) (map_of.get hears.table p) (steps p).better (steps p).fresh
@@ -167,7 +167,7 @@ module _ (net : Network) (usable : IsUsable net) (distinct : HasDistinctAddresse
         let same : v.route ≡ r = one_route base d.router (prefix_named e) v.route r (subst (λ (q : Prefix6). RouteAt base d.router q v.route) (sym v.named) v.at) at in
         let metric : e.metric ≡ r.metric = v.metric ∙ ap (λ (x : RouteValue). cond (is_learned_on d.iface x.origin) infinity x.metric) same ∙ ap (λ b. cond b infinity r.metric) clean in
         let bound : metric_through h.gateway (offer_at h.config h.gateway.from h.entries a.0 e) ≡ cost_of_interface net router iface + r.metric = total e.metric r.metric h.gateway.cost (cost_of_interface net router iface) metric near.cost low in
-        let b = hearing_bounds net distinct fits base k (both router) router s.last h d.router d.iface near (current router) (among router) now now_of refl (λ x m. close router x now m now_of) all_told t.fine hears.table hears.heard memory a.0 e listed
+        let b = hearing_bounds net distinct fits base k (both router) router s.last h d.router d.iface near (current router) (among router) now now_of refl (λ x m. close router x now m now_of) all_told t.fine t.node t.node_is t.config_is hears.table hears.heard memory a.0 e listed
         (subst (λ n. n < infinity) (sym bound) low) in (
           b.0,
           b.1,
@@ -291,7 +291,7 @@ module _ (net : Network) (usable : IsUsable net) (distinct : HasDistinctAddresse
           clash : true ≡ false → ⊥
           clash e = cc
       delivered None true none response hears =
-          heard_by (is_another net d.sent router iface old state.node state.node_is state.config_is d.linked (not_own old.config x none response)) hears
+          heard_by (is_another net zoned d.sent router iface old state.node state.node_is state.config_is d.linked (not_own old.config x none response)) hears
       delivered (Some why) true none response refuses =
           let done = stayed (max old.last now) refl refuses.state in
           record { hearing = done.0; steps = done.1; heard = bounds }

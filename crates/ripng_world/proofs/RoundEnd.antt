@@ -17,7 +17,7 @@ use Rattle.router_core.specs.Output.{is_learned_on}
 use Rattle.router_core.specs.Machine.{State}
 use Rattle.ripng_world.specs.declared.network.NetInterface.{NetInterface}
 use Rattle.ripng_world.specs.declared.event.Sent.{Sent}
-use Rattle.ripng_world.specs.Network.{Network, Node, config_of, interface_at, AreLinked, OwnsPrefixes, HasDistinctAddresses}
+use Rattle.ripng_world.specs.Network.{Network, Node, config_of, interface_at, AreLinked, OwnsPrefixes, AreZoned, HasDistinctAddresses}
 use Rattle.ripng_world.specs.Walks.{Hop, Reaches, cost, cost_of_interface}
 use Rattle.ripng_world.specs.World.{World, Deliver, address_at}
 use Rattle.ripng_world.specs.Rounds.{Round, router_of, moment_of, IsDeliveryOf, IsSynchronousRound, IsMomentOf}
@@ -77,7 +77,7 @@ wider net base k k' moments moments' router last p r more also f =
     by_origin Own s = s
     by_origin (Learned i h m) s = (s.0, s.1, s.2, record { ahead = s.3.ahead; since = s.3.since; of_router = also s.3.since s.3.of_router; within = s.3.within })
 
-module _ (net : Network) (usable : IsUsable net) (owns : OwnsPrefixes net) (noisy : IsNeverQuiet net) (distinct : HasDistinctAddresses net) (fits : FitsTables net)
+module _ (net : Network) (usable : IsUsable net) (owns : OwnsPrefixes net) (noisy : IsNeverQuiet net) (distinct : HasDistinctAddresses net) (zoned : AreZoned net) (fits : FitsTables net)
     (k : ℕ) (previous : ℕ → ℕ → Type 0) (w w' : World) (settled : IsSettled net k previous w) (round : Round) (synchronous : IsSynchronousRound net w round w')
     (close_both : (router x y : ℕ) → previous router x ⊎ IsMomentOf round router x → IsMomentOf round router y → (x < y + timeout) × (y < x + timeout)) where
   abbrev current : ℕ → ℕ → Type 0
@@ -112,7 +112,7 @@ module _ (net : Network) (usable : IsUsable net) (owns : OwnsPrefixes net) (nois
   abbrev new : List Sent
   new = [] ++ ticked.later
 
-  hears : AreHearing net usable distinct fits w k both current (λ router x m. inr m) close new ticked.ticking.all_updates synchronous.after_ticks
+  hears : AreHearing net usable distinct zoned fits w k both current (λ router x m. inr m) close new ticked.ticking.all_updates synchronous.after_ticks
   hears =
       record {
         states = λ router s is. let t = ticked.ticking.states router s is in
@@ -131,15 +131,15 @@ module _ (net : Network) (usable : IsUsable net) (owns : OwnsPrefixes net) (nois
       as_low : {a b : ℕ} → a ≡ b → b ≤ a
       as_low e = omega arith
 
-  heard : AreDelivered net usable distinct fits w k both current (λ router x m. inr m) close new ticked.ticking.all_updates synchronous.after_ticks w' round.deliveries
+  heard : AreDelivered net usable distinct zoned fits w k both current (λ router x m. inr m) close new ticked.ticking.all_updates synchronous.after_ticks w' round.deliveries
   heard =
-      deliveries_done net usable distinct fits w k both current (λ router x m. inr m) close new ticked.ticking.all_updates round.deliveries synchronous.after_ticks w' hears (delivery_moments round)
+      deliveries_done net usable distinct zoned fits w k both current (λ router x m. inr m) close new ticked.ticking.all_updates round.deliveries synchronous.after_ticks w' hears (delivery_moments round)
       (recursion_from_All (IsDeliveryOf (length w.sent) (length (w.sent ++ new))) round.deliveries
       (subst (λ (ds : List Sent). All (IsDeliveryOf (length w.sent) (length ds)) round.deliveries) ticked.ticking.sent_is synchronous.only_these))
       synchronous.all_heard
 
   abbrev BoundAt : ℕ → Prefix6 → ℕ → ℕ → ℕ → Type 0
-  BoundAt router p bound iface from = IsBoundAt net usable distinct fits w k both current (λ r x m. inr m) close new ticked.ticking.all_updates w' router p bound iface from
+  BoundAt router p bound iface from = IsBoundAt net usable distinct zoned fits w k both current (λ r x m. inr m) close new ticked.ticking.all_updates w' router p bound iface from
 
   -- what a router had and was free to tell has been heard
   heard_from : (teller iface' : ℕ) (p : Prefix6) (t : RouteValue) → RouteAt w teller p t → is_learned_on iface' t.origin ≡ false
@@ -157,7 +157,7 @@ module _ (net : Network) (usable : IsUsable net) (owns : OwnsPrefixes net) (nois
       let other' : router ≢ x.sent.router = λ same. other (same ∙ x.by_router) in
       let delivered = synchronous.each_delivered place.0 router iface x.sent place.1 (ap (λ (ds : List Sent). slice_get ds place.0) ticked.ticking.sent_is ∙ place.2) linked' (inl other') in
       let event = at_from_contains round.deliveries (Deliver place.0 router iface delivered.0) delivered.1 in
-      let has = each_at_place (HasHeardEvent net usable distinct fits w k both current (λ r x m. inr m) close new ticked.ticking.all_updates w') round.deliveries heard.heard event.0 (Deliver place.0 router iface delivered.0) event.1 in
+      let has = each_at_place (HasHeardEvent net usable distinct zoned fits w k both current (λ r x m. inr m) close new ticked.ticking.all_updates w') round.deliveries heard.heard event.0 (Deliver place.0 router iface delivered.0) event.1 in
       let b = has x.sent place.2 linked' other' x.entries x.spelled x.entry x.in_entries t
       (subst (λ r. RouteAt w r (cleared x.entry.addr x.entry.len) t) (sym x.by_router) (subst (λ (q : Prefix6). RouteAt w teller q t) (sym x.names) at))
       (subst (λ i. is_learned_on i t.origin ≡ false) (sym x.on_iface) clean) low in

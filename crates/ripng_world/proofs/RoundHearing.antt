@@ -2,8 +2,7 @@
 use Rattle.std.proofs.Common.{◌≡◌, ◌≢◌, ◌⊎◌, inl, inr, ℕ, zero, suc, ◌+◌, ◌-◌, max, ◌<◌, ◌≤◌, Bool, true, false, cond, not, ◌&&◌, ◌||◌, ◌==◌, nat_lt, nat_le, List, [], ◌∷◌, length, find, Contains, All, Option, Some, None, is_some, is_none, option_map, slice_get, slice_index_or, refl, ap, ap₂, sym, subst, ◌∙◌, arith, le_refl, le_trans}
 use Rattle.std.specs.List.{AllByRecursion}
 use Rattle.std.specs.FinMap as map_of
-use Rattle.std.specs.Ordering.{eq_by_cmp, is_eq}
-use Rattle.std.specs.Cmp.{tied_itself}
+use Rattle.std.specs.Ordering.{eq_by_cmp}
 use Rattle.std.proofs.lemmas.Bool.{eq-eqb}
 use Rattle.std.proofs.lemmas.Option.{slice_get_within}
 use Rattle.std.proofs.lemmas.Bool.Decides.{nat_tests}
@@ -19,65 +18,19 @@ use Rattle.route_table.proofs.TableLaws.{Some-same, None-Some}
 use Rattle.router_core.specs.Offers.{Offer, offer_at, is_offer, flaw, prefix_named}
 use Rattle.router_core.specs.Adoption.{adopted, metric_through}
 use Rattle.router_core.specs.Timers.{timeout}
-use Rattle.router_core.specs.Hearing.{Hearing, Heard, route_after, is_refused, is_refusal, note_at, would_add, held_after, notes_of_offer, notes_of_new}
+use Rattle.router_core.specs.Hearing.{Hearing, Heard, route_after, is_refused, is_refusal, note_at, would_add, held_after, notes_of_offer, notes_by_refusal, notes_of_new, refusal_at}
 use Rattle.router_core.specs.Output.{is_learned_on}
 use Rattle.router_core.specs.declared.answer.Note.{Note}
 use Rattle.router_core.specs.declared.answer.NoteKind.{NoteKind}
 use Rattle.router_core.specs.declared.answer.NoteKind.TheVariants.{TableFull, NoMemory, BadLength, BadPrefix, BadMetric}
 use Rattle.router_core.proofs.HearingSteps.{heard_one, before_all, after_one, at_place, table_after}
-use Rattle.ripng_world.specs.Network.{Network, HasDistinctAddresses}
+use Rattle.ripng_world.specs.Network.{Network, Node, Owns, config_of, HasDistinctAddresses}
 use Rattle.ripng_world.specs.Walks.{Hop, Reaches, end_of}
 use Rattle.ripng_world.specs.Convergence.{FitsTables}
 use Rattle.ripng_world.specs.Truth.{IsNeighbor}
 use Rattle.ripng_world.specs.World.{World}
+use Rattle.ripng_world.proofs.Room.{IsIn, in_from_contains, few_routes, not_kept_out}
 use Rattle.ripng_world.proofs.Improving.{RouteAt, IsFine, IsToldOffer, IsHeardStep, IsBetter, FineOption, IsFreshThrough, IsBounded, offered, waits, better_refl, better_trans, bounded}
-
--- ---- a table of owned prefixes has no more routes than there are owned prefixes
-
-pub IsIn : Prefix6 → List Prefix6 → Type 0
-IsIn p [] = ⊥
-IsIn p (q ∷ qs) = (p ≡ q) ⊎ IsIn p qs
-
-pub in_from_contains : (qs : List Prefix6) (p : Prefix6) → Contains qs p → IsIn p qs
-unfolding IsIn
-in_from_contains [] p c = absurd (omega arith)
-in_from_contains (q ∷ qs) p c = by_place c.0 c.1 c.2 (λ k h e. in_from_contains qs p (k, h, e))
-  where
-    by_place : (k : ℕ) → k < length (q ∷ qs) → slice_index_or (q ∷ qs) k p ≡ p → ((j : ℕ) → j < length qs → slice_index_or qs j p ≡ p → IsIn p qs) → (p ≡ q) ⊎ IsIn p qs
-    by_place zero h e later = inl (sym e)
-    by_place (suc k) h e later = inr (later k (omega arith) e)
-
-pub few_routes : (qs : List Prefix6) (t : Table) → ((p : Prefix6) (r : RouteValue) → map_of.get t p ≡ Some r → IsIn p qs) → map_of.len t ≤ length qs
-unfolding IsIn
-few_routes [] t owned = le_of (ap map_of.len (map_of.same_map prefixes_total exact_prefixes t map_of.empty (λ p. none p (map_of.get t p) refl ∙ sym (map_of.get-empty prefix_cmp p))) ∙ map_of.len-empty prefix_cmp RouteValue)
-  where
-    none : (p : Prefix6) (o : Option RouteValue) → map_of.get t p ≡ o → map_of.get t p ≡ None
-    none p None is = is
-    none p (Some r) is = absurd (owned p r is)
-
-    le_of : {a b : ℕ} → a ≡ b → a ≤ b
-    le_of e = omega arith
-few_routes (q ∷ qs) t owned =
-    let rest : map_of.len (map_of.remove t q) ≤ length qs = few_routes qs (map_of.remove t q) others in
-    at_most (map_of.contains_key t q) (map_of.len-remove prefixes_total t q) rest
-  where
-    at_most : (b : Bool) → map_of.len (map_of.remove t q) ≡ cond b (map_of.len t - 1) (map_of.len t) → map_of.len (map_of.remove t q) ≤ length qs → map_of.len t ≤ suc (length qs)
-    at_most true e h = omega arith
-    at_most false e h = omega arith
-
-    others : (p : Prefix6) (r : RouteValue) → map_of.get (map_of.remove t q) p ≡ Some r → IsIn p qs
-    others p r is = by_key (eq_by_cmp prefix_cmp p q) refl (sym (map_of.get-remove prefixes_total t q p) ∙ is)
-      where
-        by_key : (b : Bool) → eq_by_cmp prefix_cmp p q ≡ b → cond b None (map_of.get t p) ≡ Some r → IsIn p qs
-        by_key true tie e = absurd (None-Some r e)
-        by_key false tie e = by_in (owned p r e)
-          where
-            by_in : (p ≡ q) ⊎ IsIn p qs → IsIn p qs
-            by_in (inl same) = absurd (clash (sym tie ∙ ap (λ (x : Prefix6). eq_by_cmp prefix_cmp x q) same ∙ ap is_eq (tied_itself prefixes_total q)))
-              where
-                clash : false ≡ true → ⊥
-                clash e = cc
-            by_in (inr later) = later
 
 -- ---- an update of the beginning of the round
 
@@ -103,7 +56,8 @@ module _ (net : Network) (distinct : HasDistinctAddresses net) (fits : FitsTable
     (current : ℕ → Type 0) (among : (x : ℕ) → current x → moments x) (now_is : ℕ) (now_of : current now_is) (now_max : h.gateway.moment ≡ max last now_is)
     (close : (x : ℕ) → moments x → now_is < x + timeout)
     (told : (place : ℕ) (e : Rte) → slice_get h.entries place ≡ Some e → IsToldEntry net base k sender sender_iface e)
-    (fine : (p : Prefix6) (r : RouteValue) → map_of.get h.before p ≡ Some r → IsFine net base (suc k) moments router last p r) where
+    (fine : (p : Prefix6) (r : RouteValue) → map_of.get h.before p ≡ Some r → IsFine net base (suc k) moments router last p r)
+    (node : Node) (node_is : slice_get net router ≡ Some node) (config_is : h.config ≡ config_of node) where
   abbrev Fine : Prefix6 → Option RouteValue → Type 0
   Fine p o = FineOption net distinct base k moments router last h.gateway sender sender_iface near current among now_is now_of now_max close p o
 
@@ -194,11 +148,14 @@ module _ (net : Network) (distinct : HasDistinctAddresses net) (fits : FitsTable
 
   -- ---- no new route is refused
 
+  owned_at : (place : ℕ) → place ≤ length h.entries → (p : Prefix6) (r : RouteValue) → route_after h place p ≡ Some r → IsIn p fits.0
+  owned_at place within p r is =
+      let f : Fine p (Some r) = subst (Fine p) is (steps_to place within p).fine in
+      in_from_contains fits.0 p (fits.2 (end_of router f.walk) p r.tag f.reaches.owner)
+
   keys_owned : (place : ℕ) → place ≤ length h.entries → (t : Table) → ((p : Prefix6) → map_of.get t p ≡ route_after h place p)
       → (p : Prefix6) (r : RouteValue) → map_of.get t p ≡ Some r → IsIn p fits.0
-  keys_owned place within t same p r is =
-      let f : Fine p (Some r) = subst (Fine p) (sym (same p) ∙ is) (steps_to place within p).fine in
-      in_from_contains fits.0 p (fits.2 (end_of router f.walk) p r.tag f.reaches.owner)
+  keys_owned place within t same p r is = owned_at place within p r (sym (same p) ∙ is)
 
   room : (place : ℕ) (e : Rte) → place ≤ length h.entries → slice_get h.entries place ≡ Some e → route_after h place (prefix_named e) ≡ None → held_after h place < table_limit
   room place e within is none =
@@ -243,6 +200,18 @@ module _ (net : Network) (distinct : HasDistinctAddresses net) (fits : FitsTable
       passes : nat_lt 128 e.len ≡ false → not (is_routable (prefix_named e)) ≡ false → (e.metric == 0 || nat_lt 16 e.metric) ≡ false → flaw e ≡ None
       passes a b c = ap₂ (λ x y. cond x (Some BadLength) (cond y (Some BadPrefix) (cond (e.metric == 0 || nat_lt 16 e.metric) (Some BadMetric) None))) a b ∙ ap (λ z. cond z (Some BadMetric) None) c
 
+  -- what is told is owned, so filters and limits take it
+  is_owned : (place : ℕ) (e : Rte) → slice_get h.entries place ≡ Some e → (owner : ℕ) × (tag : ℕ) × Owns net owner (prefix_named e) tag
+  is_owned place e is =
+      let u = told place e is in
+      (end_of sender u.walk, u.route.tag, subst (λ (q : Prefix6). Owns net (end_of sender u.walk) q u.route.tag) (sym u.named) u.reaches.owner)
+
+  taken_in : (place : ℕ) (e : Rte) → place ≤ length h.entries → slice_get h.entries place ≡ Some e → refusal_at h place e ≡ None
+  taken_in place e within is =
+      let o = is_owned place e is in
+      not_kept_out h net router node node_is config_is (λ p. (owner : ℕ) × (tag : ℕ) × Owns net owner p tag) fits.0 fits.3 place within (owned_at place within) e o
+      (in_from_contains fits.0 (prefix_named e) (fits.2 o.0 (prefix_named e) o.1 o.2))
+
   module _ (after : Table) (heard : Heard h after) (memory : All (λ n. n.kind ≢ NoMemory) h.notes) where
     found_kind : (notes : List Note) → AllByRecursion (λ n. n.kind ≢ NoMemory) notes → (test : Note → Bool) → option_map (λ n. n.kind) (find test notes) ≡ Some NoMemory → ⊥
     found_kind [] all test is = absurd (None-Some NoMemory is)
@@ -272,7 +241,7 @@ module _ (net : Network) (distinct : HasDistinctAddresses net) (fits : FitsTable
         let o = is_offered place e is in
         let allowed : Contains (cond (would_add h place e) (notes_of_new h place) (None ∷ [])) (note_at h place) =
         subst (λ (a : List (Option NoteKind)). Contains a (note_at h place))
-        (ap₂ (λ b f. cond b (None ∷ []) (notes_of_offer h place e f)) o.0 o.1) (heard.noted place e is) in
+        (ap₂ (λ b f. cond b (None ∷ []) (notes_of_offer h place e f)) o.0 o.1 ∙ ap (notes_by_refusal h place e) (taken_in place e within is)) (heard.noted place e is) in
         by_adding (would_add h place e) refl allowed
       where
         by_adding : (b : Bool) → would_add h place e ≡ b → Contains (cond b (notes_of_new h place) (None ∷ [])) (note_at h place) → is_refusal (note_at h place) ≡ false

@@ -1,18 +1,18 @@
 -- The neighbor that a delivered datagram comes from, and the states when one router moves.
-use Rattle.std.proofs.Common.{◌≡◌, ◌≢◌, ◌⊎◌, inl, inr, ℕ, zero, suc, Bool, true, false, ◌||◌, ◌==◌, List, [], ◌∷◌, map, Some, option_map, unwrap_or, slice_get, slice_set, refl, ap, ap₂, sym, subst, ◌∙◌}
+use Rattle.std.proofs.Common.{◌≡◌, ◌≢◌, ◌⊎◌, inl, inr, ℕ, zero, suc, Bool, true, false, ◌||◌, ◌&&◌, ◌==◌, List, [], ◌∷◌, map, Some, option_map, unwrap_or, slice_get, slice_set, refl, ap, ap₂, sym, subst, ◌∙◌}
 use Rattle.std.specs.List.{list_any}
 use Rattle.std.proofs.lemmas.Bool.{eq-eqb, eqb-true}
 use Rattle.route_table.specs.declared.route.Origin.TheVariants.{Learned}
 use Rattle.route_table.proofs.TableLaws.{Some-same, None-Some}
-use Rattle.router_core.specs.Config.{cost_at, is_own_address}
+use Rattle.router_core.specs.Config.{cost_at, zone_at, is_own_address}
 use Rattle.router_core.specs.Machine.{State, gateway_of}
 use Rattle.ripng_world.specs.declared.network.NetInterface.{NetInterface}
 use Rattle.ripng_world.specs.declared.event.Sent.{Sent}
-use Rattle.ripng_world.specs.Network.{Network, Node, config_of, interface_at, AreLinked, HasDistinctAddresses}
+use Rattle.ripng_world.specs.Network.{Network, Node, config_of, interface_at, AreLinked, AreZoned, HasDistinctAddresses}
 use Rattle.ripng_world.specs.Truth.{IsNeighbor}
 use Rattle.ripng_world.specs.Walks.{Hop, IsWalk, BeginsAs}
 use Rattle.ripng_world.specs.World.{address_at, arrival_of}
-use Rattle.ripng_world.proofs.WorldRuns.{in_node, cost_is, any_at}
+use Rattle.ripng_world.proofs.WorldRuns.{in_node, cost_is, zone_is, any_at, back_on}
 
 -- what becomes of the states when one of them moves
 pub state_after : (xs : List State) (i : ℕ) (old new : State) → slice_get xs i ≡ Some old → (j : ℕ) (s : State) → slice_get xs j ≡ Some s
@@ -52,13 +52,16 @@ neighbor net d router iface now moment s node node_is config linked other =
       cost = ap (λ c. cost_at c iface) config ∙ cost_is net router iface node node_is;
     }
 
-pub is_another : (net : Network) (d : Sent) (router iface : ℕ) (s : State) (node : Node) → slice_get net router ≡ Some node → s.config ≡ config_of node
-    → (linked : AreLinked net d.router d.iface router iface) → is_own_address s.config (address_at net d.router d.iface) ≡ false → router ≢ d.router
-is_another net d router iface s node node_is config linked not_mine same =
+pub is_another : (net : Network) → AreZoned net → (d : Sent) (router iface : ℕ) (s : State) (node : Node) → slice_get net router ≡ Some node → s.config ≡ config_of node
+    → (linked : AreLinked net d.router d.iface router iface) → is_own_address s.config iface (address_at net d.router d.iface) ≡ false → router ≢ d.router
+is_another net zoned d router iface s node node_is config linked not_mine same =
     let here : slice_get node.interfaces d.iface ≡ Some linked.here = sym (in_node net router d.iface node node_is) ∙ ap (λ r. interface_at net r d.iface) same ∙ linked.here_is in
-    let own : is_own_address (config_of node) (address_at net d.router d.iface) ≡ true =
-    any_at (λ i. i.addr == address_at net d.router d.iface) (λ (i : NetInterface). i.interface) node.interfaces d.iface linked.here here (eq-eqb _ _ (sym (source_is net d router iface linked))) in
-    clash (sym (ap (λ c. is_own_address c (address_at net d.router d.iface)) config ∙ own) ∙ not_mine)
+    let zone : zone_at (config_of node) iface ≡ linked.here.interface.zone =
+    zone_is net router iface node linked.there node_is linked.there_is ∙ sym (zoned d.router d.iface iface (back_on net d router iface same linked)) in
+    let own : is_own_address (config_of node) iface (address_at net d.router d.iface) ≡ true =
+    any_at (λ i. i.zone == zone_at (config_of node) iface && i.addr == address_at net d.router d.iface) (λ (i : NetInterface). i.interface) node.interfaces d.iface linked.here here
+    (ap₂ (λ a b. a && b) (eq-eqb _ _ (sym zone)) (eq-eqb _ _ (sym (source_is net d router iface linked)))) in
+    clash (sym (ap (λ c. is_own_address c iface (address_at net d.router d.iface)) config ∙ own) ∙ not_mine)
   where
     clash : true ≡ false → ⊥
     clash e = cc
@@ -73,18 +76,24 @@ any_from {X = X} test f (x ∷ xs) e = by_test (test (f x)) refl e (any_from tes
     by_test true is e later = (0, x, refl, is)
     by_test false is e later = let l = later e in (suc l.0, l.1, l.2, l.3)
 
+both_true : (a b : Bool) → (a && b) ≡ true → (a ≡ true) × (b ≡ true)
+both_true true b e = (refl, e)
+both_true false b e = absurd (cc)
+
 pub not_mine : (net : Network) → HasDistinctAddresses net → (d : Sent) (router iface : ℕ) (s : State) (node : Node) → slice_get net router ≡ Some node → s.config ≡ config_of node
-    → (linked : AreLinked net d.router d.iface router iface) → router ≢ d.router → is_own_address s.config (address_at net d.router d.iface) ≡ false
+    → (linked : AreLinked net d.router d.iface router iface) → router ≢ d.router → is_own_address s.config iface (address_at net d.router d.iface) ≡ false
 not_mine net distinct d router iface s node node_is config linked other =
-    ap (λ c. is_own_address c (address_at net d.router d.iface)) config ∙ by_answer (is_own_address (config_of node) (address_at net d.router d.iface)) refl
+    ap (λ c. is_own_address c iface (address_at net d.router d.iface)) config ∙ by_answer (is_own_address (config_of node) iface (address_at net d.router d.iface)) refl
   where
-    by_answer : (b : Bool) → is_own_address (config_of node) (address_at net d.router d.iface) ≡ b → is_own_address (config_of node) (address_at net d.router d.iface) ≡ false
+    by_answer : (b : Bool) → is_own_address (config_of node) iface (address_at net d.router d.iface) ≡ b → is_own_address (config_of node) iface (address_at net d.router d.iface) ≡ false
     by_answer false e = e
     by_answer true e =
-        let f = any_from (λ i. i.addr == address_at net d.router d.iface) (λ (i : NetInterface). i.interface) node.interfaces e in
+        let f = any_from (λ i. i.zone == zone_at (config_of node) iface && i.addr == address_at net d.router d.iface) (λ (i : NetInterface). i.interface) node.interfaces e in
+        let both = both_true (f.1.interface.zone == zone_at (config_of node) iface) (f.1.interface.addr == address_at net d.router d.iface) f.3 in
         absurd (other (distinct.of_neighbors router f.0 iface d.router d.iface f.1 (in_node net router f.0 node node_is ∙ f.2)
         (record { here = linked.there; there = linked.here; here_is = linked.there_is; there_is = linked.here_is; same_link = sym linked.same_link })
-        (eqb-true f.1.interface.addr (address_at net d.router d.iface) f.3 ∙ source_is net d router iface linked)))
+        (eqb-true f.1.interface.zone (zone_at (config_of node) iface) both.0 ∙ zone_is net router iface node linked.there node_is linked.there_is)
+        (eqb-true f.1.interface.addr (address_at net d.router d.iface) both.1 ∙ source_is net d router iface linked)))
 
 -- at an interface, a gateway's address is that of one interface of one router
 pub one_sender : (net : Network) → HasDistinctAddresses net → (router iface from sender sender_iface sender' sender_iface' : ℕ)

@@ -43,7 +43,7 @@ wire_passes es bytes s =
     )
 
 pub no_fault : (config : Config) (x : Received) (es : List Rte) → Spells Response es x.bytes → x.source_port ≡ 521 → is_link_local x.source ≡ true
-    → is_own_address config x.source ≡ false → x.hop_limit ≡ 255 → fault config x ≡ None
+    → is_own_address config x.iface x.source ≡ false → x.hop_limit ≡ 255 → fault config x ≡ None
 no_fault config x es s port local own hops =
     all_pass (map (λ t. (t.0, Wire t.1)) (wire_reasons x.bytes) ++ arrival_reasons config x)
     (each_append (λ (t : Bool × Fault). t.0 ≡ false) (map (λ t. (t.0, Wire t.1)) (wire_reasons x.bytes)) (arrival_reasons config x) (wire_passes es x.bytes s)

@@ -12,7 +12,7 @@ use Rattle.route_table.specs.Route.{RouteValue, infinity}
 use Rattle.route_table.specs.Table.{Table, with_value}
 use Rattle.route_table.proofs.TableLaws.{at_from_entries, Some-same, None-Some}
 use Rattle.route_table.proofs.TableSteps.{get-with_value}
-use Rattle.router_core.specs.Config.{Config, cost_at, is_own_address}
+use Rattle.router_core.specs.Config.{Config, cost_at, zone_at, is_own_address}
 use Rattle.router_core.specs.Received.{Received}
 use Rattle.router_core.specs.Faults.{fault, arrival_reasons, response_reasons, request_reasons}
 use Rattle.router_core.specs.Ageing.{aged_table, unmarked}
@@ -28,7 +28,7 @@ use Rattle.router_core.specs.declared.arrival.Fault.{Fault}
 use Rattle.router_core.specs.declared.arrival.Fault.TheVariants.{Wire}
 use Rattle.ripng_world.specs.declared.network.NetInterface.{NetInterface}
 use Rattle.ripng_world.specs.declared.event.Sent.{Sent}
-use Rattle.ripng_world.specs.Network.{Network, Node, config_of, interface_at, AreLinked, Owns, OwnsPrefixes}
+use Rattle.ripng_world.specs.Network.{Network, Node, config_of, interface_at, AreLinked, AreZoned, Owns, OwnsPrefixes}
 use Rattle.ripng_world.specs.Walks.{cost_of_interface}
 use Rattle.ripng_world.specs.World.{World, Event, Deliver, Stranger, Tick, Restart, Shutdown, LinkDown, LinkUp, Reconfigure, RouterMoves, Happens, WorldRun, StartsFrom, IsCold, past_of, reconfigurations_of, reconfiguration_in, reconfigurations_in, sent_by, address_at, arrival_of}
 use Rattle.ripng_world.specs.Past.{Past, HasCostSince, OwnsSince}
@@ -58,8 +58,8 @@ later_passed (x ∷ xs) ys e = by_test x.0 e (later_passed xs ys)
     by_test true none rest = absurd (None-Some _ (sym none))
     by_test false none rest = rest none
 
--- a Response without fault is from none of the router's own addresses
-pub not_own : (config : Config) (x : Received) → fault config x ≡ None → is_response x.bytes ≡ true → is_own_address config x.source ≡ false
+-- a Response without fault is from none of the router's own addresses in its zone
+pub not_own : (config : Config) (x : Received) → fault config x ≡ None → is_response x.bytes ≡ true → is_own_address config x.iface x.source ≡ false
 not_own config x none response =
     let late : first_reason (cond (is_response x.bytes) (response_reasons config x) (request_reasons config x)) ≡ None = later_passed (map (λ t. (t.0, Wire t.1)) (wire_reasons x.bytes)) (arrival_reasons config x) none in
     let tests : first_reason (response_reasons config x) ≡ None = sym (ap (λ b. first_reason (cond b (response_reasons config x) (request_reasons config x))) response) ∙ late in
@@ -102,17 +102,26 @@ cost_is net router iface node is =
     once None = refl
     once (Some i) = refl
 
-any_map : {A B : Type 0} (test : B → Bool) (f : A → B) (xs : List A) → list_any test (map f xs) ≡ list_any (λ x. test (f x)) xs
+pub zone_is : (net : Network) (router iface : ℕ) (node : Node) (i : NetInterface) → slice_get net router ≡ Some node → interface_at net router iface ≡ Some i → zone_at (config_of node) iface ≡ i.interface.zone
+zone_is net router iface node i is at =
+    ap (λ o. unwrap_or (option_map (λ (x : Interface). x.zone) o) 0)
+    (get_map (λ (x : NetInterface). x.interface) node.interfaces iface ∙ ap (option_map (λ (x : NetInterface). x.interface)) (sym (in_node net router iface node is) ∙ at))
+
+pub any_map : {A B : Type 0} (test : B → Bool) (f : A → B) (xs : List A) → list_any test (map f xs) ≡ list_any (λ x. test (f x)) xs
 any_map test f [] = refl
 any_map test f (x ∷ xs) = ap (λ b. test (f x) || b) (any_map test f xs)
 
 -- ---- configurations
 
--- a configuration of the router: its addresses as at the cold start, its costs and prefixes in force since
+-- the address of an interface, with its zone
+abbrev pub zoned_address : Interface → ℕ × ℕ
+zoned_address i = (i.zone, i.addr)
+
+-- a configuration of the router: its addresses and zones as at the cold start, its costs and prefixes in force since
 pub record IsConfigured (past : Past) (router : ℕ) (config : Config) : Type 0 where
   pub node : Node
   pub node_is : slice_get past.net router ≡ Some node
-  pub addresses : map (λ (i : Interface). i.addr) config.interfaces ≡ map (λ (i : NetInterface). i.interface.addr) node.interfaces
+  pub addresses : map zoned_address config.interfaces ≡ map (λ (i : NetInterface). zoned_address i.interface) node.interfaces
   pub costs : (iface : ℕ) (i : Interface) → slice_get config.interfaces iface ≡ Some i → HasCostSince past router iface i.cost
   pub prefixes : AllByRecursion (λ (t : Prefix6 × ℕ). IsPrefix t.0 × OwnsSince past router t.0 t.1) config.prefixes
 
@@ -127,9 +136,9 @@ first_configured past owns router node is =
           let o : Owns past.net router t.0 t.1 = record { node = node; node_is = is; place = place; listed = listed } in (owns router t.0 t.1 o, inl o));
     }
   where
-    map_twice : (xs : List NetInterface) → map (λ (i : Interface). i.addr) (map (λ (i : NetInterface). i.interface) xs) ≡ map (λ (i : NetInterface). i.interface.addr) xs
+    map_twice : (xs : List NetInterface) → map zoned_address (map (λ (i : NetInterface). i.interface) xs) ≡ map (λ (i : NetInterface). zoned_address i.interface) xs
     map_twice [] = refl
-    map_twice (x ∷ xs) = ap (λ ys. x.interface.addr ∷ ys) (map_twice xs)
+    map_twice (x ∷ xs) = ap (λ ys. zoned_address x.interface ∷ ys) (map_twice xs)
 
     same_cost : (iface : ℕ) (i : Interface) → slice_get (map (λ (i : NetInterface). i.interface) node.interfaces) iface ≡ Some i → i.cost ≡ cost_of_interface past.net router iface
     same_cost iface i here = sym (ap (λ o. unwrap_or (option_map (λ (i : Interface). i.cost) o) infinity) here) ∙ cost_is past.net router iface node is
@@ -147,17 +156,17 @@ configured_grows net reconfigurations more router config c =
           (λ t both. (both.0, owner_grows net reconfigurations more router t.0 t.1 both.1)) config.prefixes c.prefixes;
     }
 
--- another cost of an interface leaves the addresses, and is the only other cost
-pub set_addresses : (xs : List Interface) (iface cost : ℕ) → map (λ (i : Interface). i.addr) (with_cost xs iface cost) ≡ map (λ (i : Interface). i.addr) xs
+-- another cost of an interface leaves the addresses and zones, and is the only other cost
+pub set_addresses : (xs : List Interface) (iface cost : ℕ) → map zoned_address (with_cost xs iface cost) ≡ map zoned_address xs
 set_addresses xs iface cost = by_value (slice_get xs iface) refl
   where
-    same_at : (ys : List Interface) (j : ℕ) (i : Interface) → slice_get ys j ≡ Some i → map (λ (i : Interface). i.addr) (slice_set ys j (record i { cost = cost })) ≡ map (λ (i : Interface). i.addr) ys
+    same_at : (ys : List Interface) (j : ℕ) (i : Interface) → slice_get ys j ≡ Some i → map zoned_address (slice_set ys j (record i { cost = cost })) ≡ map zoned_address ys
     same_at [] j i e = refl
-    same_at (y ∷ ys) zero i e = ap (λ a. a ∷ map (λ (i : Interface). i.addr) ys) (sym (ap (λ (k : Interface). k.addr) (Some-same y i e)))
-    same_at (y ∷ ys) (suc j) i e = ap (λ rest. y.addr ∷ rest) (same_at ys j i e)
+    same_at (y ∷ ys) zero i e = ap (λ a. a ∷ map zoned_address ys) (sym (ap zoned_address (Some-same y i e)))
+    same_at (y ∷ ys) (suc j) i e = ap (λ rest. zoned_address y ∷ rest) (same_at ys j i e)
 
     by_value : (o : Option Interface) → slice_get xs iface ≡ o
-        → map (λ (i : Interface). i.addr) (unwrap_or (option_map (λ i. slice_set xs iface (record i { cost = cost })) o) xs) ≡ map (λ (i : Interface). i.addr) xs
+        → map zoned_address (unwrap_or (option_map (λ i. slice_set xs iface (record i { cost = cost })) o) xs) ≡ map zoned_address xs
     by_value None is = refl
     by_value (Some i) is = same_at xs iface i is
 
@@ -214,19 +223,26 @@ changed_configured net reconfigurations router config (Disown p) named good =
       prefixes = each_filter (λ (t : Prefix6 × ℕ). IsPrefix t.0 × OwnsSince (record { net = net; reconfigurations = reconfigurations ++ (router, Disown p) ∷ [] }) router t.0 t.1) (λ t. not (same_prefix t.0 p)) config.prefixes g.prefixes;
     }
 
--- the cost of an interface that is there
-configured_cost : (past : Past) (router iface : ℕ) (config : Config) (c : IsConfigured past router config) (there : NetInterface) → slice_get c.node.interfaces iface ≡ Some there
-    → HasCostSince past router iface (cost_at config iface)
-configured_cost past router iface config c there is = by_value (slice_get config.interfaces iface) refl
-  where
-    same : option_map (λ (i : Interface). i.addr) (slice_get config.interfaces iface) ≡ Some there.interface.addr
-    same =
-        sym (get_map (λ (i : Interface). i.addr) config.interfaces iface) ∙ ap (λ addrs. slice_get addrs iface) c.addresses
-        ∙ get_map (λ (i : NetInterface). i.interface.addr) c.node.interfaces iface ∙ ap (option_map (λ (i : NetInterface). i.interface.addr)) is
+-- an interface that is there is in the configuration, with its zone, its address and a cost
+module _ (past : Past) (router iface : ℕ) (config : Config) (c : IsConfigured past router config) (there : NetInterface) (is : slice_get c.node.interfaces iface ≡ Some there) where
+  configured_place : option_map zoned_address (slice_get config.interfaces iface) ≡ Some (zoned_address there.interface)
+  configured_place =
+      sym (get_map zoned_address config.interfaces iface) ∙ ap (λ places. slice_get places iface) c.addresses
+      ∙ get_map (λ (i : NetInterface). zoned_address i.interface) c.node.interfaces iface ∙ ap (option_map (λ (i : NetInterface). zoned_address i.interface)) is
 
-    by_value : (o : Option Interface) → slice_get config.interfaces iface ≡ o → HasCostSince past router iface (unwrap_or (option_map (λ (i : Interface). i.cost) o) infinity)
-    by_value None none = absurd (None-Some there.interface.addr (sym (ap (option_map (λ (i : Interface). i.addr)) none) ∙ same))
-    by_value (Some i) here = c.costs iface i here
+  configured_zone : zone_at config iface ≡ there.interface.zone
+  configured_zone = sym (of_place (slice_get config.interfaces iface)) ∙ ap (λ o. unwrap_or (option_map (λ (t : ℕ × ℕ). t.0) o) 0) configured_place
+    where
+      of_place : (o : Option Interface) → unwrap_or (option_map (λ (t : ℕ × ℕ). t.0) (option_map zoned_address o)) 0 ≡ unwrap_or (option_map (λ (i : Interface). i.zone) o) 0
+      of_place None = refl
+      of_place (Some i) = refl
+
+  configured_cost : HasCostSince past router iface (cost_at config iface)
+  configured_cost = by_value (slice_get config.interfaces iface) refl
+    where
+      by_value : (o : Option Interface) → slice_get config.interfaces iface ≡ o → HasCostSince past router iface (unwrap_or (option_map (λ (i : Interface). i.cost) o) infinity)
+      by_value None none = absurd (None-Some (zoned_address there.interface) (sym (ap (option_map zoned_address) none) ∙ configured_place))
+      by_value (Some i) here = c.costs iface i here
 
 -- ---- states
 
@@ -313,22 +329,36 @@ changed_sound net reconfigurations router now config table (Disown p) named soun
 
 -- ---- deliveries
 
+-- a link from a router to itself
+abbrev pub back_on : (net : Network) (d : Sent) (router iface : ℕ) → router ≡ d.router → (linked : AreLinked net d.router d.iface router iface) → AreLinked net d.router d.iface d.router iface
+back_on net d router iface same linked =
+    record { here = linked.here; there = linked.there; here_is = linked.here_is; there_is = ap (λ r. interface_at net r iface) (sym same) ∙ linked.there_is; same_link = linked.same_link }
+
 module _ (past : Past) (router iface : ℕ) (d : Sent) (moment : ℕ) (old new : State) (answer : Answer) (good : IsGoodState past router old)
-    (linked : AreLinked past.net d.router d.iface router iface) (told : IsSoundDatagramSince past d.router d.bytes) where
+    (zoned : AreZoned past.net) (linked : AreLinked past.net d.router d.iface router iface) (told : IsSoundDatagramSince past d.router d.bytes) where
   abbrev arrival : Received
   arrival = arrival_of past.net d iface moment
 
   source_is : address_at past.net d.router d.iface ≡ linked.here.interface.addr
   source_is = ap (λ o. unwrap_or (option_map (λ (i : NetInterface). i.interface.addr) o) 0) linked.here_is
 
-  apart : is_own_address old.config arrival.source ≡ false → router ≢ d.router
+  abbrev is_ours : ℕ × ℕ → Bool
+  is_ours t = t.0 == zone_at old.config iface && t.1 == arrival.source
+
+  there_in_node : slice_get good.configured.node.interfaces iface ≡ Some linked.there
+  there_in_node = sym (in_node past.net router iface good.configured.node good.configured.node_is) ∙ linked.there_is
+
+  apart : is_own_address old.config iface arrival.source ≡ false → router ≢ d.router
   apart not_own same =
       let here : slice_get good.configured.node.interfaces d.iface ≡ Some linked.here =
       sym (in_node past.net router d.iface good.configured.node good.configured.node_is) ∙ ap (λ r. interface_at past.net r d.iface) same ∙ linked.here_is in
-      let own : list_any (λ a. a == arrival.source) (map (λ (i : NetInterface). i.interface.addr) good.configured.node.interfaces) ≡ true =
-      any_at (λ a. a == arrival.source) (λ (i : NetInterface). i.interface.addr) good.configured.node.interfaces d.iface linked.here here (eq-eqb _ _ (sym source_is)) in
-      let own' : is_own_address old.config arrival.source ≡ true =
-      sym (any_map (λ a. a == arrival.source) (λ (i : Interface). i.addr) old.config.interfaces) ∙ ap (list_any (λ a. a == arrival.source)) good.configured.addresses ∙ own in
+      let zone : zone_at old.config iface ≡ linked.here.interface.zone =
+      configured_zone past router iface old.config good.configured linked.there there_in_node ∙ sym (zoned d.router d.iface iface (back_on past.net d router iface same linked)) in
+      let own : list_any is_ours (map (λ (i : NetInterface). zoned_address i.interface) good.configured.node.interfaces) ≡ true =
+      any_at is_ours (λ (i : NetInterface). zoned_address i.interface) good.configured.node.interfaces d.iface linked.here here
+      (ap₂ (λ a b. a && b) (eq-eqb _ _ (sym zone)) (eq-eqb _ _ (sym source_is))) in
+      let own' : is_own_address old.config iface arrival.source ≡ true =
+      sym (any_map is_ours zoned_address old.config.interfaces) ∙ ap (list_any is_ours) good.configured.addresses ∙ own in
       clash (sym own' ∙ not_own)
     where
       clash : true ≡ false → ⊥
@@ -340,8 +370,7 @@ module _ (past : Past) (router iface : ℕ) (d : Sent) (moment : ℕ) (old new :
         linked = record { here = linked.there; there = linked.here; here_is = linked.there_is; there_is = linked.here_is; same_link = sym linked.same_link };
         apart = other;
         from = ap (option_map (λ (i : NetInterface). i.interface.addr)) linked.here_is ∙ ap Some (sym source_is);
-        cost = configured_cost past router iface old.config good.configured linked.there
-            (sym (in_node past.net router iface good.configured.node good.configured.node_is) ∙ linked.there_is);
+        cost = configured_cost past router iface old.config good.configured linked.there there_in_node;
       }
 
   delivered_good : (now : ℕ) (o : Option Fault) (b : Bool) → fault old.config arrival ≡ o → is_response d.bytes ≡ b
@@ -360,6 +389,7 @@ module _ (past : Past) (router iface : ℕ) (d : Sent) (moment : ℕ) (old new :
 -- ---- worlds
 
 pub record AreGood (past : Past) (states : List State) (sent : List Sent) : Type 0 where
+  pub zoned : AreZoned past.net
   pub states_good : (router : ℕ) (s : State) → slice_get states router ≡ Some s → IsGoodState past router s
   pub sent_true : AllByRecursion (λ (d : Sent). IsSoundDatagramSince past d.router d.bytes) sent
 
@@ -372,6 +402,7 @@ module _ (net : Network) (owns : OwnsPrefixes net) where
   moved w w' router happening answer m good new_good =
       subst (λ (cs : List (ℕ × Change)). AreGood (record { net = net; reconfigurations = cs }) w'.states w'.sent) (sym m.reconfigurations)
       (record {
+        zoned = good.zoned;
         states_good = λ r s is.
             elim (get_set w.states router m.new r s (ap (λ (ss : List State). slice_get ss r) (sym m.states) ∙ is)) [
               | inl both ↦ subst (λ k. IsGoodState after k s) both.0 (subst (IsGoodState after router) both.1 new_good)
@@ -432,7 +463,7 @@ module _ (net : Network) (owns : OwnsPrefixes net) where
   happened w (Deliver datagram router iface now) answer w' d good =
       let m = d.moves in
       unchanging w w' router (Arrives (arrival_of net d.sent iface now)) answer m good
-      (delivered_good (past_of net w) router iface d.sent now m.old m.new answer (good.states_good router m.old m.old_is) d.linked
+      (delivered_good (past_of net w) router iface d.sent now m.old m.new answer (good.states_good router m.old m.old_is) good.zoned d.linked
       (each_at_place (λ (s : Sent). IsSoundDatagramSince (past_of net w) s.router s.bytes) w.sent good.sent_true datagram d.sent d.sent_is)
       (max m.old.last now) _ _ refl refl m.moves)
 
@@ -475,7 +506,7 @@ module _ (net : Network) (owns : OwnsPrefixes net) where
   pub cold_good : (moments : List ℕ) (w : World) → IsCold net moments w → IsGood w
   cold_good moments w cold =
       let both = starts_good w.reconfigurations 0 net moments w.states w.sent (λ k node is. ap (slice_get net) (zero_first k) ∙ is) cold.starts in
-      record { states_good = λ r s is. subst (λ k. IsGoodState (past_of net w) k s) (zero_first r) (both.0 r s is); sent_true = both.1 }
+      record { zoned = cold.zoned; states_good = λ r s is. subst (λ k. IsGoodState (past_of net w) k s) (zero_first r) (both.0 r s is); sent_true = both.1 }
     where
       zero_first : (k : ℕ) → 0 + k ≡ k
       zero_first k = omega arith

@@ -19,8 +19,9 @@ pub use Rattle.fib.specs.declared.change.Hop.TheVariants.{Direct, Via}
 pub use Rattle.router_core.specs.Adoption.{Gateway}
 pub use Rattle.router_core.specs.Ageing.{aged_table}
 pub use Rattle.router_core.specs.Changes.{forwards, forward}
-pub use Rattle.router_core.specs.Config.{Config, config_reasons, reasons_of_each, IsConfig}
+pub use Rattle.router_core.specs.Config.{Config, config_with, config_reasons, reasons_of_each, IsConfig}
 pub use Rattle.router_core.specs.Faults.{fault, ripng_port}
+pub use Rattle.router_core.specs.Filters.{is_accepted, limit_at}
 pub use Rattle.router_core.specs.Hearing.{Hearing, Heard}
 pub use Rattle.router_core.specs.Machine.{State, Happening, Arrives, Ticks, Restarts, ShutsDown, LinkGoesDown, LinkComesUp, Reconfigures, Moves, Starts}
 pub use Rattle.router_core.specs.Received.{Received}
@@ -31,6 +32,8 @@ pub use Rattle.router_core.specs.declared.answer.Destination.{Destination}
 pub use Rattle.router_core.specs.declared.answer.Destination.TheVariants.{Group, Peer}
 pub use Rattle.router_core.specs.declared.answer.NoteKind.TheVariants.{NoMemory}
 pub use Rattle.router_core.specs.declared.answer.Outgoing.{Outgoing}
+pub use Rattle.router_core.specs.declared.filter.Filter.{Filter}
+pub use Rattle.router_core.specs.declared.filter.Limit.{Limit}
 pub use Rattle.router_core.specs.declared.reconfiguring.Change.{Change}
 pub use Rattle.router_core.specs.declared.reconfiguring.Change.TheVariants.{Cost, Own, Disown}
 pub use Rattle.router_core.specs.declared.reconfiguring.ReconfigureRefused.{ReconfigureRefused}
@@ -38,7 +41,7 @@ pub use Rattle.ripng_world.specs.declared.event.LabError.{LabError}
 pub use Rattle.ripng_world.specs.declared.event.LabError.TheVariants.{NoSuchRouter, NoSuchInterface, NoSuchDatagram, OtherLink, NotAStranger, OutOfMemory, NotALiar}
 pub use Rattle.ripng_world.specs.declared.network.NetInterface.{NetInterface}
 pub use Rattle.ripng_world.specs.declared.network.NetRefused.{NetRefused}
-pub use Rattle.ripng_world.specs.declared.network.NetRefused.TheVariants.{TooManyRouters, AddressSharedInNetwork, BadRouter}
+pub use Rattle.ripng_world.specs.declared.network.NetRefused.TheVariants.{TooManyRouters, ZoneNamed, AddressSharedInNetwork, BadRouter}
 pub use Rattle.ripng_world.specs.declared.lab.delivering.Pair.{Pair}
 pub use Rattle.ripng_world.specs.declared.path.PathEnd.{PathEnd}
 pub use Rattle.ripng_world.specs.declared.path.PathEnd.TheVariants.{Delivered, NoRoute, NextHopIsNobodys, Loops}

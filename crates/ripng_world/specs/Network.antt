@@ -1,12 +1,14 @@
 -- Networks: routers with interfaces on links.
-use Rattle.std.specs.Prelude.{◌≡◌, ℕ, ◌<◌, ◌≤◌, Bool, IsTrue, List, map, Option, Some, slice_get, option_and_then}
-use Rattle.ripng_world.specs.Below.{is_link_local, Prefix6, IsPrefix, is_routable, infinity, Config, NetInterface}
+use Rattle.std.specs.Prelude.{◌≡◌, ℕ, ◌<◌, ◌≤◌, Bool, IsTrue, List, [], map, Option, Some, slice_get, option_and_then}
+use Rattle.ripng_world.specs.Below.{is_link_local, Prefix6, IsPrefix, is_routable, infinity, Config, config_with, Filter, Limit, NetInterface}
 
 -- what one router of a network is configured with
 pub record Node : Type 0 where
   pub interfaces : List NetInterface
   pub prefixes : List (Prefix6 × ℕ)  -- that it owns, with their tags
   pub quiet : Bool
+  pub filters : List Filter
+  pub limits : List Limit
 
 -- routers, each known by its place in the list
 abbrev pub Network : Type 0
@@ -14,7 +16,15 @@ Network = List Node
 
 -- the configuration of a router, without its links
 abbrev pub config_of : Node → Config
-config_of node = record { interfaces = map (λ i. i.interface) node.interfaces; prefixes = node.prefixes; quiet = node.quiet }
+config_of node = config_with (map (λ i. i.interface) node.interfaces) node.prefixes node.quiet node.filters node.limits
+
+-- no filter and no limit
+abbrev pub HasNoLists : Node → Type 0
+HasNoLists node = (node.filters ≡ []) × (node.limits ≡ [])
+
+-- no router has filters or limits
+abbrev pub HaveNoLists : Network → Type 0
+HaveNoLists net = (router : ℕ) (node : Node) → slice_get net router ≡ Some node → HasNoLists node
 
 -- an interface of a router, if both are there
 abbrev pub interface_at : Network → ℕ → ℕ → Option NetInterface
@@ -43,9 +53,13 @@ OwnsPrefixes net = (router : ℕ) (p : Prefix6) (tag : ℕ) → Owns net router 
 pub record HasDistinctAddresses (net : Network) : Type 0 where
   -- no address is that of two interfaces of one link
   pub on_links : (r i s j : ℕ) (l : AreLinked net r i s j) → l.here.interface.addr ≡ l.there.interface.addr → (r ≡ s) × (i ≡ j)
-  -- no router has, at any of its interfaces, the address of another router's interface of one of its links
+  -- no router has, at an interface in the zone of one of its links, the address of another router's interface of that link
   pub of_neighbors : (r i k s j : ℕ) (own : NetInterface) → interface_at net r i ≡ Some own → (l : AreLinked net r k s j)
-      → own.interface.addr ≡ l.there.interface.addr → r ≡ s
+      → own.interface.zone ≡ l.here.interface.zone → own.interface.addr ≡ l.there.interface.addr → r ≡ s
+
+-- to each router a link is in one zone: its own interfaces there have the same (RFC 4007, 5 and 6)
+abbrev pub AreZoned : Network → Type 0
+AreZoned net = (r i j : ℕ) (l : AreLinked net r i r j) → l.here.interface.zone ≡ l.there.interface.zone
 
 -- each interface and each owned prefix is one that a router may have
 pub record IsUsable (net : Network) : Type 0 where

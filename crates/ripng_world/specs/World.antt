@@ -1,7 +1,7 @@
 -- A network that runs: the state of each router, and every datagram ever sent.
 use Rattle.std.specs.Prelude.{◌≡◌, ℕ, ◌<◌, suc, Bool, true, false, ◌&&◌, List, [], ◌∷◌, ◌++◌, length, map, filter_map, Option, Some, None, is_none, unwrap_or, option_map, slice_get, slice_set, IsFalse}
 use Rattle.ripng_world.specs.Below.{is_response, Received, fault, ripng_port, State, Happening, Arrives, Ticks, Restarts, Reconfigures, ShutsDown, LinkGoesDown, LinkComesUp, Moves, Starts, Answer, Outgoing, Destination, Group, Peer, Change, Sent}
-use Rattle.ripng_world.specs.Network.{Network, Node, AreLinked, config_of, interface_at}
+use Rattle.ripng_world.specs.Network.{Network, Node, AreLinked, AreZoned, config_of, interface_at}
 use Rattle.ripng_world.specs.Past.{Past}
 
 -- the routers' states, and all that was sent since the cold start
@@ -120,7 +120,8 @@ StartsFrom n (node ∷ nodes) (now ∷ moments) (s ∷ states) sent =
     × (sent ≡ map (sent_by n) answer.sends ++ rest)
 StartsFrom n _ _ _ sent = ⊥
 
--- every router has just started, and nothing was changed
+-- every router has just started, each link is in one zone to it, and nothing was changed
 pub record IsCold (net : Network) (moments : List ℕ) (w : World) : Type 0 where
+  pub zoned : AreZoned net
   pub starts : StartsFrom 0 net moments w.states w.sent
   pub unchanged : w.reconfigurations ≡ []

@@ -1,7 +1,7 @@
 //! Networks: routers with interfaces on links, and which of them are lawful.
 
 ghost use Rattle.std.specs.Prelude.{◌≡◌, ◌≢◌, All, map, None, Some, IfErr, IfOk, OnOk};
-ghost use Rattle.ripng_world.specs.Common.{result_err, first_reason, IsConfig, reasons_of_each, IsNetwork, config_of, address_reasons, addresses, faults_of_router, net_refused_name, network_fault, router_reasons, Network};
+ghost use Rattle.ripng_world.specs.Common.{list_any, result_err, first_reason, IsConfig, reasons_of_each, IsNetwork, HasNoLists, HaveNoLists, AreZoned, config_of, address_reasons, addresses, faults_of_router, names_zone, net_refused_name, network_fault, router_reasons, Network};
 ghost use Rattle.ripng_world.specs.declared.network.NetRefused.TheVariants.{OutOfMemory};
 
 use prefix6::{Addr6, Prefix};
@@ -20,7 +20,7 @@ pub struct NetInterface {
     pub link: u16,
 }
 
-/// The configuration of one router of a network.
+/// The configuration of one router of a network. In a laboratory it has no filters and no limits.
 #[derive(Drop)]
 pub struct Node {
     /// Its interfaces, numbered from 0.
@@ -32,6 +32,7 @@ pub struct Node {
 }
 
 impl Model for Node {
+    ghost use Rattle.std.specs.Prelude.{[]};
     ghost use Rattle.ripng_world.specs.Network as network;
 
     ghost Value = { network.Node };
@@ -40,6 +41,8 @@ impl Model for Node {
       interfaces = n.interfaces.items;
       prefixes = n.prefixes.items;
       quiet = n.quiet;
+      filters = [];
+      limits = [];
     } };
 }
 
@@ -49,6 +52,8 @@ impl Model for Node {
 pub enum NetRefused {
     /// It has more than `ROUTER_LIMIT` routers.
     TooManyRouters,
+    /// An interface is in a zone other than 0: in a laboratory all links are of one zone.
+    ZoneNamed,
     /// Two interfaces of the network have one address.
     AddressSharedInNetwork,
     /// The configuration of a router is refused: the first such router, numbered from 0, and why.
@@ -61,7 +66,7 @@ pub enum NetRefused {
 }
 
 impl NetRefused {
-    /// The name of the refusal, one word, and its number, 1 to 4.
+    /// The name of the refusal, one word, and its number, 1 to 5.
     pub fn name_and_number(self) -> (&'static str, u8)
         ensures { (result.0.now, result.1) ≡ net_refused_name self }
     {
@@ -70,6 +75,7 @@ impl NetRefused {
             NetRefused::AddressSharedInNetwork => ("AddressSharedInNetwork", 2),
             NetRefused::BadRouter { .. } => ("BadRouter", 3),
             NetRefused::OutOfMemory => ("OutOfMemory", 4),
+            NetRefused::ZoneNamed => ("ZoneNamed", 5),
         }
     }
 }
@@ -90,7 +96,7 @@ pub struct NetRouter {
 }
 
 impl Model for NetRouter {
-    ghost use Rattle.std.specs.Prelude.{◌≡◌, map};
+    ghost use Rattle.std.specs.Prelude.{◌≡◌, [], map};
     ghost use Rattle.ripng_world.specs.Network as network;
 
     ghost Value = { network.Node };
@@ -99,9 +105,11 @@ impl Model for NetRouter {
       interfaces = r.interfaces.items;
       prefixes = r.config.prefixes;
       quiet = r.config.quiet;
+      filters = [];
+      limits = [];
     } };
 
-    ghost invariant = { λ r. map (λ i. i.interface) r.interfaces.items ≡ r.config.interfaces };
+    ghost invariant = { λ r. (map (λ i. i.interface) r.interfaces.items ≡ r.config.interfaces) × (r.config.filters ≡ []) × (r.config.limits ≡ []) };
 }
 
 /// A lawful network.
@@ -115,14 +123,28 @@ impl Model for NetConfig {
 
     ghost view = { λ n. n.routers.items };
 
-    ghost invariant = { λ n. IsNetwork n.routers.items };
+    ghost invariant = { λ n. IsNetwork n.routers.items × AreZoned n.routers.items };
+}
+
+/// Whether an interface of the router is in a zone other than 0.
+fn names_zone(node: &Node) -> bool
+    ensures { result ≡ names_zone node.now }
+{
+    node.interfaces.iter().any(|i| i.interface.zone != 0)
+}
+
+/// Whether one of the routers has such an interface.
+fn name_zones(nodes: &[Node]) -> bool
+    ensures { result ≡ list_any names_zone nodes.now }
+{
+    nodes.iter().any(|node| names_zone(node))
 }
 
 /// A router of its configuration, if that is lawful.
 fn check_router(alloc: Global, router: usize, node: Node) -> Result<NetRouter, NetRefused>
     ensures kept { IfOk result (λ r. r ≡ node) }
     ensures passes { OnOk result (first_reason (faults_of_router router node) ≡ None) }
-    ensures lawful { OnOk result (IsConfig (config_of node)) }
+    ensures lawful { OnOk result (IsConfig (config_of node) × HasNoLists node) }
     ensures refused { IfErr result (λ why. why ≢ NetRefused.OutOfMemory → first_reason (faults_of_router router node) ≡ Some why) }
 {
     let Node {
@@ -164,7 +186,7 @@ fn check_addresses(addresses: &[Addr6]) -> Result<(), NetRefused>
 fn check_routers(alloc: Global, nodes: Vec<Node>) -> Result<Vec<NetRouter>, NetRefused>
     ensures kept { IfOk result (λ v. v.items ≡ nodes.items) }
     ensures passes { OnOk result (first_reason (reasons_of_each router_reasons nodes.items) ≡ None) }
-    ensures lawful { OnOk result (All (λ node. IsConfig (config_of node)) nodes.items) }
+    ensures lawful { OnOk result (All (λ node. IsConfig (config_of node) × HasNoLists node) nodes.items) }
     ensures refused { IfErr result (λ why. why ≢ NetRefused.OutOfMemory → first_reason (reasons_of_each router_reasons nodes.items) ≡ Some why) }
 {
     let mut routers = Vec::with_capacity(alloc, nodes.len())?;
@@ -184,10 +206,15 @@ impl NetConfig {
         ensures kept { IfOk result (λ network. network ≡ routers.items) }
         ensures passes { OnOk result (network_fault routers.items ≡ None) }
         ensures lawful { IfOk result IsNetwork }
+        ensures zoned { IfOk result AreZoned }
+        ensures unlisted { IfOk result HaveNoLists }
         ensures refused { IfErr result (λ why. why ≢ NetRefused.OutOfMemory → network_fault routers.items ≡ Some why) }
     {
         if routers.len() > ROUTER_LIMIT {
             return Err(NetRefused::TooManyRouters);
+        }
+        if name_zones(&routers) {
+            return Err(NetRefused::ZoneNamed);
         }
         let routers = check_routers(alloc, routers)?;
         let addresses = addresses(alloc, &routers)?;

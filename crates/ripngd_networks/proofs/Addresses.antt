@@ -1,10 +1,10 @@
--- The addresses of a router stay, whatever it does; and which arrivals it refuses is by its addresses alone.
-use Rattle.std.proofs.Common.{◌≡◌, ℕ, ◌+◌, ◌%◌, max, ◌==◌, ◌&&◌, ◌||◌, not, Bool, true, false, cond, MatchBool, MatchOption, List, [], ◌∷◌, ◌++◌, map, length, Option, Some, None, refl, ap, sym, ◌∙◌}
+-- The addresses and zones of a router stay, whatever it does; and which arrivals it refuses is by these alone.
+use Rattle.std.proofs.Common.{◌≡◌, ℕ, ◌+◌, ◌%◌, max, ◌==◌, ◌&&◌, not, Bool, true, false, cond, MatchBool, MatchOption, List, [], ◌∷◌, ◌++◌, map, length, Option, Some, None, option_map, unwrap_or, slice_get, refl, ap, sym, ◌∙◌}
 use Rattle.std.specs.List.{list_any}
 use Rattle.prefix6.specs.Addr.{is_link_local}
 use Rattle.ripng_wire.specs.Wire.{first_reason, wire_reasons, is_response}
 use Rattle.router_core.specs.Ageing.{aged_table, unmarked}
-use Rattle.router_core.specs.Config.{Config, has_address}
+use Rattle.router_core.specs.Config.{Config, is_own_address, zone_at}
 use Rattle.router_core.specs.Faults.{fault, asker_reasons, ripng_port}
 use Rattle.router_core.specs.Machine.{State, Happening, Arrives, Ticks, Restarts, Reconfigures, ShutsDown, LinkGoesDown, LinkComesUp, Moves, Accepts, Refuses, Hears as RouterHears, Replies, ticked, is_regular_due, is_triggered_due}
 use Rattle.router_core.specs.Received.{Received}
@@ -15,13 +15,13 @@ use Rattle.router_core.specs.declared.arrival.Fault.TheVariants.{Wire, NotRipngP
 use Rattle.router_core.specs.declared.config.Interface.{Interface}
 use Rattle.router_core.specs.declared.reconfiguring.Change.{Change}
 use Rattle.router_core.specs.declared.reconfiguring.Change.TheVariants.{Cost, Own, Disown}
-use Rattle.ripng_world.proofs.WorldRuns.{set_addresses}
+use Rattle.ripng_world.proofs.WorldRuns.{any_map, get_map, set_addresses, zoned_address}
 
 -- ---- addresses stay
 
--- the addresses of a configuration
-abbrev pub addresses_of : Config → List ℕ
-addresses_of config = map (λ (i : Interface). i.addr) config.interfaces
+-- the addresses of a configuration, each with its zone
+abbrev pub addresses_of : Config → List (ℕ × ℕ)
+addresses_of config = map zoned_address config.interfaces
 
 accepted_addresses : (old : State) (now : ℕ) (x : Received) (answer : Answer) (new : State) (b : Bool) → MatchBool b (RouterHears old now x answer new) (Replies old now x answer new)
     → addresses_of new.config ≡ addresses_of old.config
@@ -56,11 +56,27 @@ moves_addresses old (LinkGoesDown now iface) answer new moves = ap (λ (s : Stat
 moves_addresses old (LinkComesUp now iface) answer new moves = ap (λ (s : State). addresses_of s.config) moves.state
 moves_addresses old (Reconfigures now c) answer new moves = ap (λ (s : State). addresses_of s.config) moves.state ∙ changed_addresses old.config c
 
--- ---- faults are by addresses alone
+-- ---- faults are by addresses and zones alone
 
-own_by_address : (interfaces : List Interface) (a : ℕ) → has_address interfaces a ≡ list_any (λ b. b == a) (map (λ (i : Interface). i.addr) interfaces)
-own_by_address [] a = refl
-own_by_address (i ∷ interfaces) a = ap (λ b. (i.addr == a) || b) (own_by_address interfaces a)
+-- whether one of the addresses is that of an arrival at the interface, in its zone
+abbrev own_among : List (ℕ × ℕ) → ℕ → ℕ → Bool
+own_among places iface a =
+    let zone = unwrap_or (option_map (λ (t : ℕ × ℕ). t.0) (slice_get places iface)) 0 in
+    list_any (λ (t : ℕ × ℕ). t.0 == zone && t.1 == a) places
+
+own_by_address : (config : Config) (iface a : ℕ) → is_own_address config iface a ≡ own_among (addresses_of config) iface a
+own_by_address config iface a =
+    sym (any_map (λ (t : ℕ × ℕ). t.0 == zone_at config iface && t.1 == a) zoned_address config.interfaces)
+    ∙ ap (λ z. list_any (λ (t : ℕ × ℕ). t.0 == z && t.1 == a) (addresses_of config)) zone
+  where
+    of_place : (o : Option Interface) → unwrap_or (option_map (λ (i : Interface). i.zone) o) 0 ≡ unwrap_or (option_map (λ (t : ℕ × ℕ). t.0) (option_map zoned_address o)) 0
+    of_place None = refl
+    of_place (Some i) = refl
+
+    zone : zone_at config iface ≡ unwrap_or (option_map (λ (t : ℕ × ℕ). t.0) (slice_get (addresses_of config) iface)) 0
+    zone =
+        of_place (slice_get config.interfaces iface)
+        ∙ ap (λ o. unwrap_or (option_map (λ (t : ℕ × ℕ). t.0) o) 0) (sym (get_map zoned_address config.interfaces iface))
 
 abbrev neighbors : Bool → Received → List (Bool × Fault)
 neighbors own x = (not (is_link_local x.source), NotLinkLocal) ∷ (own, OwnAddress) ∷ (x.to_group && not (x.hop_limit == 255), HopLimit) ∷ []
@@ -73,4 +89,4 @@ fault_by own x =
 
 pub fault_same : (c d : Config) (x : Received) → addresses_of c ≡ addresses_of d → fault c x ≡ fault d x
 fault_same c d x same =
-    ap (λ own. fault_by own x) (own_by_address c.interfaces x.source ∙ ap (list_any (λ b. b == x.source)) same ∙ sym (own_by_address d.interfaces x.source))
+    ap (λ own. fault_by own x) (own_by_address c x.iface x.source ∙ ap (λ places. own_among places x.iface x.source) same ∙ sym (own_by_address d x.iface x.source))

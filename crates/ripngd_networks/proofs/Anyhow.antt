@@ -9,7 +9,7 @@ use Rattle.ripng_world.proofs.Members.{At, at_from_contains, at_left, at_right, 
 use Rattle.ripng_phases.proofs.Along.{contains_from}
 use Rattle.ripngd_engine.specs.Run.{Machine}
 use Rattle.ripngd_networks.specs.Ages.{GoOnAnyhow, IsAwake, IsLook, KeepsTick, LivesTicking}
-use Rattle.ripngd_networks.specs.Daemons.{Act, Start, Listen, Tick, Reconfigure, Shutdown, LinkDown, LinkUp, Refuse, Deed, Happened, Lives, own_deeds}
+use Rattle.ripngd_networks.specs.Daemons.{Act, Start, Listen, Tick, Reconfigure, Shutdown, LinkDown, LinkUp, Ask, Refuse, Deed, Happened, Lives, own_deeds}
 use Rattle.ripngd_networks.specs.OnTime.{AreOnTime, Dated, GoOn, HappenFrom, IsTickIn, undated}
 use Rattle.ripngd_networks.proofs.Lossless.{ArePlain, does_from, lives_from, lives_to, plain_own}
 use Rattle.ripngd_networks.proofs.Places.{plain_deeds}
@@ -23,6 +23,7 @@ kept m n (Reconfigure c) same room = tt
 kept m n Shutdown same room = tt
 kept m n (LinkDown on) same room = tt
 kept m n (LinkUp on) same room = tt
+kept m n (Ask on) same room = tt
 kept m n Refuse same room = tt
 
 ticking : (config : Config) (deeds : List Deed) (m n : Machine) → ArePlain deeds → n.lost_memory ≡ m.lost_memory → m.lost_memory < 2 ^ 64 - 1 → Lives config (Some m) deeds (Some n) → LivesTicking config (Some m) deeds (Some n)

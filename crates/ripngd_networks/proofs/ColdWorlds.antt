@@ -1,4 +1,4 @@
--- Every network has a cold world: each router started at moment 0.
+-- Every network of which each link is in one zone to each router has a cold world: each router started at moment 0.
 use Rattle.std.proofs.Common.{ℕ, suc, Bool, true, false, cond, List, [], ◌∷◌, ◌++◌, map, flat_map, None, refl, arith}
 use Rattle.std.specs.List.{enumerate_from}
 use Rattle.std.proofs.lemmas.List.Elements.{All-cons, All-nil}
@@ -13,7 +13,7 @@ use Rattle.router_core.specs.declared.answer.Destination.TheVariants.{Group}
 use Rattle.router_core.specs.declared.answer.Outgoing.{Outgoing}
 use Rattle.router_core.specs.declared.config.Interface.{Interface}
 use Rattle.ripng_world.specs.declared.event.Sent.{Sent}
-use Rattle.ripng_world.specs.Network.{Network, Node, config_of}
+use Rattle.ripng_world.specs.Network.{Network, Node, AreZoned, config_of}
 use Rattle.ripng_world.specs.World.{World, StartsFrom, IsCold, sent_by}
 
 -- ---- what a router asks for when it comes up
@@ -60,7 +60,7 @@ cold_from n (node ∷ nodes) =
     let first = first_start (config_of node) in
     (0 ∷ rest.0, started (config_of node) 0 ∷ rest.1, map (sent_by n) first.0.sends ++ rest.2, (first.0, rest.2, first.1, rest.3, refl))
 
-pub cold_world : (net : Network) → (moments : List ℕ) × (w : World) × IsCold net moments w
-cold_world net =
+pub cold_world : (net : Network) → AreZoned net → (moments : List ℕ) × (w : World) × IsCold net moments w
+cold_world net zoned =
     let cold = cold_from 0 net in
-    (cold.0, record { states = cold.1; sent = cold.2; reconfigurations = [] }, record { starts = cold.3; unchanged = refl })
+    (cold.0, record { states = cold.1; sent = cold.2; reconfigurations = [] }, record { zoned = zoned; starts = cold.3; unchanged = refl })

@@ -14,13 +14,15 @@ use Rattle.ripng_world.specs.declared.event.Sent.{Sent}
 use Rattle.ripng_world.specs.Network.{Network, Node, config_of}
 use Rattle.ripng_world.specs.World as world
 use Rattle.ripng_world.specs.World.{World, Event, RouterMoves, Happens, arrival_of, is_to_group, sent_by}
+use Rattle.ripng_world.proofs.WorldRuns.{zoned_address}
 use Rattle.ripng_phases.specs.Phases as phases
+use Rattle.ripngd_engine.specs.Changing.{LinkComesUpOnce}
 use Rattle.ripngd_engine.specs.Link.{Call, Datagram, Gave, Silent, RecvFailed, Handed}
 use Rattle.ripngd_engine.specs.Run as engine
 use Rattle.ripngd_engine.specs.Run.{Machine, Trace, Sends, MovedOrLost, Moved, ComesUp, arrival, counted, followed_by, one_call, handed, datagrams_of}
 use Rattle.ripngd_engine.specs.Observer.{LinkReport, Processed}
 use Rattle.ripngd_engine.specs.declared.observer.Arrived.{Arrived}
-use Rattle.ripngd_networks.specs.Daemons.{Act, Start, Listen, Tick, Reconfigure, Shutdown, LinkDown, LinkUp, Refuse, Deed, Does, Goes, HearsCall, in_force, reconfiguration_by}
+use Rattle.ripngd_networks.specs.Daemons.{Act, Start, Listen, Tick, Reconfigure, Shutdown, LinkDown, LinkUp, Ask, Refuse, Deed, Does, Goes, HearsCall, in_force, reconfiguration_by}
 use Rattle.ripngd_networks.specs.Links.{handed_in, handed_by, IsCopyOf, IsOfAStranger}
 use Rattle.ripngd_networks.specs.OnTime.{IsNumbered}
 use Rattle.ripngd_networks.proofs.Addresses.{addresses_of, fault_same, moves_addresses}
@@ -67,8 +69,8 @@ pub record IsHeard (trace : Trace) (now : ℕ) (answer : Answer) : Type 0 where
   pub rest : List LinkReport
   pub told : trace.told ≡ Processed who bytes answer.fault answer.notes ∷ rest
 
--- it ticked at that moment, and noted nothing
-pub record IsTicked (trace : Trace) (now : ℕ) (answer : Answer) : Type 0 where
+-- it did so at that moment, and noted nothing
+pub record NotesNothing (trace : Trace) (now : ℕ) (answer : Answer) : Type 0 where
   pub moments : trace.moments ≡ now ∷ []
   pub notes : answer.notes ≡ []
 
@@ -77,11 +79,12 @@ abbrev pub IsEventOf : ℕ → ℕ → Act → Option ℕ → Trace → Event �
 IsEventOf count router Start number trace e answer = (now : ℕ) × (e ≡ world.Restart router now) × (trace.moments ≡ now ∷ [])
 IsEventOf count router (Listen (Gave d)) (Some number) trace e answer = (now : ℕ) × (e ≡ world.Deliver (count + number) router d.iface now) × IsHeard trace now answer
 IsEventOf count router (Listen (Gave d)) None trace e answer = (now : ℕ) × (e ≡ world.Stranger router (arrival now d)) × IsHeard trace now answer
-IsEventOf count router Tick number trace e answer = (now : ℕ) × (word : ℕ) × (e ≡ world.Tick router now word) × IsTicked trace now answer
+IsEventOf count router Tick number trace e answer = (now : ℕ) × (word : ℕ) × (e ≡ world.Tick router now word) × NotesNothing trace now answer
 IsEventOf count router (Reconfigure c) number trace e answer = (now : ℕ) × (e ≡ world.Reconfigure router now c) × (trace.moments ≡ now ∷ [])
 IsEventOf count router Shutdown number trace e answer = (now : ℕ) × (e ≡ world.Shutdown router now) × (trace.moments ≡ now ∷ [])
 IsEventOf count router (LinkDown on) number trace e answer = (now : ℕ) × (e ≡ world.LinkDown router now on) × (trace.moments ≡ now ∷ [])
-IsEventOf count router (LinkUp on) number trace e answer = (now : ℕ) × (e ≡ world.LinkUp router now on) × (trace.moments ≡ now ∷ [])
+IsEventOf count router (LinkUp on) number trace e answer = (now : ℕ) × (e ≡ world.LinkUp router now on) × NotesNothing trace now answer
+IsEventOf count router (Ask on) number trace e answer = (now : ℕ) × (e ≡ world.LinkUp router now on) × NotesNothing trace now answer
 IsEventOf count router act number trace e answer = ⊥
 
 -- a daemon lost a step for memory
@@ -285,9 +288,21 @@ module _ (net : Network) (first : List Sent) (daemons : ℕ → Option Machine) 
     link_down_on on number t n did =
         once_on (LinkDown on) (LinkGoesDown did.1.0 on) (world.LinkDown router did.1.0 on) did.1.0 number t n m was did.1.1 refl (λ w' r. r) (did.1.0, refl, ap (λ (x : Trace). x.moments) did.1.1.carries.trace)
 
+    -- to ask notes nothing
+    asked_silently : (on : ℕ) (t : Trace) (n : Machine) (asks : LinkComesUpOnce on m t n) → NotesNothing t asks.0 asks.1.answer
+    asked_silently on t n asks = record { moments = ap (λ (x : Trace). x.moments) asks.1.carries.trace; notes = asks.1.moves.answer_is.notes_are }
+
     link_up_on : (on : ℕ) (number : Option ℕ) (t : Trace) (n : Machine) → Goes (LinkUp on) m t n → Onward n (record { act = LinkUp on; trace = t }) number
     link_up_on on number t n did =
-        once_on (LinkUp on) (LinkComesUp did.1.0 on) (world.LinkUp router did.1.0 on) did.1.0 number t n m was did.1.1 refl (λ w' r. r) (did.1.0, refl, ap (λ (x : Trace). x.moments) did.1.1.carries.trace)
+        once_on (LinkUp on) (LinkComesUp did.1.0 on) (world.LinkUp router did.1.0 on) did.1.0 number t n m was did.1.1 refl (λ w' r. r) (did.1.0, refl, asked_silently on t n did.1)
+
+    asked_on : (on : ℕ) (number : Option ℕ) (t : Trace) (n : Machine) → Goes (Ask on) m t n → Onward n (record { act = Ask on; trace = t }) number
+    asked_on on number t n did = elim did.1 [
+      | inl asks ↦
+          once_on (Ask on) (LinkComesUp asks.0 on) (world.LinkUp router asks.0 on) asks.0 number t n m was asks.1 refl (λ w' r. r) (asks.0, refl, asked_silently on t n asks)
+      | inr nothing ↦
+          stayed_on n (record { act = Ask on; trace = t }) number (was ∙ sym (ap (λ (x : Machine). x.router) nothing.2)) (ap handed_in_trace nothing.1) refl tt
+    ]
 
     refused_on : (number : Option ℕ) (t : Trace) (n : Machine) → Goes Refuse m t n → Onward n (record { act = Refuse; trace = t }) number
     refused_on number t n did =
@@ -332,7 +347,7 @@ module _ (net : Network) (first : List Sent) (daemons : ℕ → Option Machine) 
             unheard = subst (λ o. IsFalse (heard_by (is_none o) d.bytes)) (fault_same (config_of node) here.state.config (arrival now d) (sym here.addresses)) (strange.unheard now);
           }
         where
-          many : (xs : List Interface) → length xs ≡ length (map (λ (i : Interface). i.addr) xs)
+          many : (xs : List Interface) → length xs ≡ length (map zoned_address xs)
           many [] = refl
           many (x ∷ xs) = ap suc (many xs)
 
@@ -383,6 +398,7 @@ module _ (net : Network) (first : List Sent) (daemons : ℕ → Option Machine) 
     gone_on Shutdown number t n did given = shut_down_on number t n did
     gone_on (LinkDown on) number t n did given = link_down_on on number t n did
     gone_on (LinkUp on) number t n did given = link_up_on on number t n did
+    gone_on (Ask on) number t n did given = asked_on on number t n did
     gone_on Refuse number t n did given = refused_on number t n did
 
   pub done_on : (before : Option Machine) → daemons router ≡ before → (act : Act) (number : Option ℕ) (t : Trace) (n : Machine) → Does (config_of node) before act t n
@@ -394,6 +410,7 @@ module _ (net : Network) (first : List Sent) (daemons : ℕ → Option Machine) 
   done_on None is Shutdown number t n did given = absurd did
   done_on None is (LinkDown on) number t n did given = absurd did
   done_on None is (LinkUp on) number t n did given = absurd did
+  done_on None is (Ask on) number t n did given = absurd did
   done_on None is Refuse number t n did given = absurd did
   done_on (Some m) is (Listen call) number t n did given = gone_on m is (Listen call) number t n did given
   done_on (Some m) is Tick number t n did given = gone_on m is Tick number t n did given
@@ -401,4 +418,5 @@ module _ (net : Network) (first : List Sent) (daemons : ℕ → Option Machine) 
   done_on (Some m) is Shutdown number t n did given = gone_on m is Shutdown number t n did given
   done_on (Some m) is (LinkDown on) number t n did given = gone_on m is (LinkDown on) number t n did given
   done_on (Some m) is (LinkUp on) number t n did given = gone_on m is (LinkUp on) number t n did given
+  done_on (Some m) is (Ask on) number t n did given = gone_on m is (Ask on) number t n did given
   done_on (Some m) is Refuse number t n did given = gone_on m is Refuse number t n did given

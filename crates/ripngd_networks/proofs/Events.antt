@@ -7,7 +7,7 @@ use Rattle.ripng_world.specs.World.{Event}
 use Rattle.ripng_phases.specs.Phases.{IsOrdinary}
 use Rattle.ripngd_engine.specs.Link.{Datagram, Gave, Silent, RecvFailed, Handed}
 use Rattle.ripngd_engine.specs.Run.{Trace, arrival}
-use Rattle.ripngd_networks.specs.Daemons.{Act, Start, Listen, Tick, Reconfigure, Shutdown, LinkDown, LinkUp, Refuse}
+use Rattle.ripngd_networks.specs.Daemons.{Act, Start, Listen, Tick, Reconfigure, Shutdown, LinkDown, LinkUp, Ask, Refuse}
 use Rattle.ripngd_networks.specs.OnTime.{IsPlain}
 use Rattle.ripngd_networks.proofs.Deeds.{IsEventOf, IsHeard}
 
@@ -48,7 +48,20 @@ plain_event count router Tick number trace e answer plain is =
 plain_event count router (Reconfigure c) number trace e answer plain is = absurd plain
 plain_event count router Shutdown number trace e answer plain is = absurd plain
 plain_event count router (LinkDown on) number trace e answer plain is = absurd plain
-plain_event count router (LinkUp on) number trace e answer plain is = absurd plain
+plain_event count router (LinkUp on) number trace e answer plain is =
+    record {
+      ordinary = subst IsOrdinary (sym is.1) tt;
+      router_is = ap router_of is.1;
+      moments = is.2.moments ∙ ap (λ n. n ∷ []) (sym (ap moment_of is.1));
+      notes = inl is.2.notes;
+    }
+plain_event count router (Ask on) number trace e answer plain is =
+    record {
+      ordinary = subst IsOrdinary (sym is.1) tt;
+      router_is = ap router_of is.1;
+      moments = is.2.moments ∙ ap (λ n. n ∷ []) (sym (ap moment_of is.1));
+      notes = inl is.2.notes;
+    }
 plain_event count router Refuse number trace e answer plain is = absurd is
 
 -- a delivery is of what a link gave
@@ -114,6 +127,10 @@ gift_of count router (LinkUp on) number trace e answer datagram other iface now 
   where
     no : world.LinkUp router is.0 on ≡ world.Deliver datagram other iface now → ⊥
     no e = cc
+gift_of count router (Ask on) number trace e answer datagram other iface now is same = absurd (no (sym is.1 ∙ same))
+  where
+    no : world.LinkUp router is.0 on ≡ world.Deliver datagram other iface now → ⊥
+    no e = cc
 gift_of count router Refuse number trace e answer datagram other iface now is same = absurd is
 
 -- a tick is a tick
@@ -141,5 +158,12 @@ tick_of count router Tick number trace e answer other now word plain is same =
 tick_of count router (Reconfigure c) number trace e answer other now word plain is same = absurd plain
 tick_of count router Shutdown number trace e answer other now word plain is same = absurd plain
 tick_of count router (LinkDown on) number trace e answer other now word plain is same = absurd plain
-tick_of count router (LinkUp on) number trace e answer other now word plain is same = absurd plain
+tick_of count router (LinkUp on) number trace e answer other now word plain is same = absurd (no (sym is.1 ∙ same))
+  where
+    no : world.LinkUp router is.0 on ≡ world.Tick other now word → ⊥
+    no e = cc
+tick_of count router (Ask on) number trace e answer other now word plain is same = absurd (no (sym is.1 ∙ same))
+  where
+    no : world.LinkUp router is.0 on ≡ world.Tick other now word → ⊥
+    no e = cc
 tick_of count router Refuse number trace e answer other now word plain is same = absurd is

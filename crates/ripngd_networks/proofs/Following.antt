@@ -10,7 +10,7 @@ use Rattle.router_core.specs.Machine.{Happening, Arrives, Ticks, Restarts, Recon
 use Rattle.router_core.proofs.MovesReplay.{moves_replay}
 use Rattle.ripngd_engine.specs.Link.{Call, Gave, Silent, RecvFailed, Handed}
 use Rattle.ripngd_engine.specs.Run.{Machine, Trace, FollowsUnless, MovedOrLost, arrival}
-use Rattle.ripngd_networks.specs.Daemons.{Act, Start, Listen, Tick, Reconfigure, Shutdown, LinkDown, LinkUp, Refuse, Deed, Does, Goes, HearsCall, Lives, in_force}
+use Rattle.ripngd_networks.specs.Daemons.{Act, Start, Listen, Tick, Reconfigure, Shutdown, LinkDown, LinkUp, Ask, Refuse, Deed, Does, Goes, HearsCall, Lives, in_force}
 
 -- the forwarding table of a daemon that goes on
 abbrev pub Follows : Machine → Type 0
@@ -44,6 +44,10 @@ gone (Reconfigure c) m t n follows did = stepped m (Reconfigures did.1.0 c) did.
 gone Shutdown m t n follows did = stepped m (ShutsDown did.1.0) did.1.0 t n refl did.0 follows (inl did.1.1)
 gone (LinkDown on) m t n follows did = stepped m (LinkGoesDown did.1.0 on) did.1.0 t n refl did.0 follows (inl did.1.1)
 gone (LinkUp on) m t n follows did = stepped m (LinkComesUp did.1.0 on) did.1.0 t n refl did.0 follows (inl did.1.1)
+gone (Ask on) m t n follows did = elim did.1 [
+  | inl asks ↦ stepped m (LinkComesUp asks.0 on) asks.0 t n refl did.0 follows (inl asks.1)
+  | inr nothing ↦ subst Follows (sym nothing.2) follows
+]
 gone Refuse m t n follows did = subst Follows (sym did.1.2) follows
 
 does : (config : Config) (before : Option Machine) (act : Act) (t : Trace) (n : Machine) → IfUp before → Does config before act t n → Follows n
@@ -58,6 +62,7 @@ does config (Some m) (Reconfigure c) t n follows did = gone (Reconfigure c) m t 
 does config (Some m) Shutdown t n follows did = gone Shutdown m t n follows did
 does config (Some m) (LinkDown on) t n follows did = gone (LinkDown on) m t n follows did
 does config (Some m) (LinkUp on) t n follows did = gone (LinkUp on) m t n follows did
+does config (Some m) (Ask on) t n follows did = gone (Ask on) m t n follows did
 does config (Some m) Refuse t n follows did = gone Refuse m t n follows did
 does config None (Listen call) t n follows did = absurd did
 does config None Tick t n follows did = absurd did
@@ -65,6 +70,7 @@ does config None (Reconfigure c) t n follows did = absurd did
 does config None Shutdown t n follows did = absurd did
 does config None (LinkDown on) t n follows did = absurd did
 does config None (LinkUp on) t n follows did = absurd did
+does config None (Ask on) t n follows did = absurd did
 does config None Refuse t n follows did = absurd did
 
 -- after all of its life

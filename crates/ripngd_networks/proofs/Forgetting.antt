@@ -18,7 +18,7 @@ use Rattle.ripng_world.specs.Network.{Network, Node, IsNetwork, config_of}
 use Rattle.ripng_world.specs.Past.{IsBackedSince}
 use Rattle.ripng_world.specs.Rounds.{moment_of, router_of}
 use Rattle.ripng_world.specs.World as world
-use Rattle.ripng_world.specs.World.{World, past_of}
+use Rattle.ripng_world.specs.World.{World}
 use Rattle.ripng_world.proofs.Members.{At, at_right}
 use Rattle.ripng_phases.specs.Ages as phases
 use Rattle.ripng_phases.specs.Minutes.{Timed, AreFrom, untimed}
@@ -32,7 +32,7 @@ use Rattle.ripng_phases.proofs.Sliding.{awake_from, recent_from}
 use Rattle.ripng_world.proofs.WorldRuns.{done_from}
 use Rattle.ripngd_engine.specs.Run.{Machine, Trace}
 use Rattle.ripngd_networks.specs.Ages.{GoOnAnyhow, IsAwake, IsLook, IsStart, StaysUp, past_since}
-use Rattle.ripngd_networks.specs.Daemons.{Act, Start, Listen, Tick, Reconfigure, Shutdown, LinkDown, LinkUp, Refuse, Deed, Happened, Does, Lives, own_deeds, reconfiguration_by, reconfigurations_by}
+use Rattle.ripngd_networks.specs.Daemons.{Act, Start, Listen, Tick, Reconfigure, Shutdown, LinkDown, LinkUp, Ask, Refuse, Deed, Happened, Does, Lives, own_deeds, reconfiguration_by, reconfigurations_by}
 use Rattle.ripngd_networks.specs.Links.{HaveRun, all_handed}
 use Rattle.ripngd_networks.specs.OnTime.{Dated, HappenFrom, undated}
 use Rattle.ripngd_networks.proofs.Deeds.{IsEventOf, IsStateOf}
@@ -54,6 +54,7 @@ start_only config (Reconfigure c) t n never did = did
 start_only config Shutdown t n never did = did
 start_only config (LinkDown on) t n never did = did
 start_only config (LinkUp on) t n never did = did
+start_only config (Ask on) t n never did = did
 start_only config Refuse t n never did = did
 
 stays_down : (config : Config) (deeds : List Deed) (after : Option Machine) → AllByRecursion (λ (d : Deed). IsStart d.act → ⊥) deeds → Lives config None deeds after → after ≡ None
@@ -84,6 +85,7 @@ stays_up count router (p ∷ ps) all up = by p.step refl up (λ u. stays_up coun
     start_looks Shutdown start = absurd start
     start_looks (LinkDown on) start = absurd start
     start_looks (LinkUp on) start = absurd start
+    start_looks (Ask on) start = absurd start
     start_looks Refuse start = absurd start
 
     by : (o : Option Step) → p.step ≡ o → AllByRecursion (λ (t : Timed). phases.StartsAnew router t.step.event → ⊥) (cons_option (option_map (timed_when p.dated.at) o) (history_of ps))

@@ -34,7 +34,7 @@ use Rattle.ripng_world.proofs.NetworkNow.{IsLawfulChange, IsPlaced, now_alike, n
 use Rattle.ripng_world.proofs.Reached.{IsKnown, IsReachedBy, IsReachedRow}
 use Rattle.ripng_world.proofs.ReachedRuns.{AreReached, IsReachedState}
 use Rattle.ripng_world.proofs.ReachedWorlds.{reached_from_cold, reached_on}
-use Rattle.ripng_world.proofs.WorldRuns.{IsGood, get_map, in_node, ran, run_from_cold}
+use Rattle.ripng_world.proofs.WorldRuns.{IsGood, get_map, in_node, ran, run_from_cold, zoned_address}
 use Rattle.ripngd_networks.specs.LastUpdate.{AreRoutes, HasNoneBy, IsDeliveredWhole, IsHeardWhole, IsSentBetween, sent_on}
 use Rattle.ripngd_networks.proofs.Addresses.{addresses_of}
 use Rattle.ripngd_networks.proofs.LastUpdate.{neighbor_ends}
@@ -121,11 +121,11 @@ module _ (net : Network) (is_net : IsNetwork net) (w : World) (good : IsGood net
   pub own_addresses : addresses_of s.config ≡ addresses_of (config_of node)
   own_addresses =
       let c = (good.states_good other s s_is).configured in
-      c.addresses ∙ ap (λ (n : Node). map (λ (k : NetInterface). k.interface.addr) n.interfaces) (Some-same c.node node (sym c.node_is ∙ node_is)) ∙ sym (twice node.interfaces)
+      c.addresses ∙ ap (λ (n : Node). map (λ (k : NetInterface). zoned_address k.interface) n.interfaces) (Some-same c.node node (sym c.node_is ∙ node_is)) ∙ sym (twice node.interfaces)
     where
-      twice : (xs : List NetInterface) → map (λ (k : Interface). k.addr) (map (λ (k : NetInterface). k.interface) xs) ≡ map (λ (k : NetInterface). k.interface.addr) xs
+      twice : (xs : List NetInterface) → map zoned_address (map (λ (k : NetInterface). k.interface) xs) ≡ map (λ (k : NetInterface). zoned_address k.interface) xs
       twice [] = refl
-      twice (x ∷ xs) = ap (λ ys. x.interface.addr ∷ ys) (twice xs)
+      twice (x ∷ xs) = ap (λ ys. zoned_address x.interface ∷ ys) (twice xs)
 
 -- ---- both
 

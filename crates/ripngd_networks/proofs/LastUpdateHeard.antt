@@ -16,11 +16,14 @@ use Rattle.route_table.specs.declared.route.Origin.TheVariants.{Own, Learned}
 use Rattle.route_table.specs.declared.route.Clock.{Clock}
 use Rattle.route_table.specs.declared.route.Clock.TheVariants.{Fixed, Live, Dying}
 use Rattle.router_core.specs.Adoption.{Gateway, adopted, adopted_by_clock, refreshed, taken, lost, metric_through, is_reachable, is_through, is_preferred, is_repeated}
-use Rattle.router_core.specs.Hearing.{Hearing, Heard, route_after, is_refused, is_refusal, note_at, notes_of_new, notes_of_offer, would_add}
+use Rattle.router_core.specs.Filters.{is_by}
+use Rattle.router_core.specs.Hearing.{Hearing, Heard, route_after, is_refused, is_refusal, note_at, notes_of_new, notes_by_refusal, notes_of_offer, brought_after, refusal_at, would_add, would_bring}
 use Rattle.router_core.specs.Offers.{Offer, flaw, is_offer, offer_at, prefix_named}
+use Rattle.router_core.specs.Output.{is_learned_on}
 use Rattle.router_core.specs.declared.answer.NoteKind.{NoteKind}
 use Rattle.router_core.specs.declared.answer.NoteKind.TheVariants.{BadLength, BadPrefix, BadMetric}
 use Rattle.router_core.proofs.HearingSteps.{after_one, before_all}
+use Rattle.router_core.proofs.NoFilters.{takes_withdrawal}
 use Rattle.ripng_world.proofs.Each.{each_at_place}
 use Rattle.ripngd_networks.proofs.OneRoute.{OfRoute, IsKept, entries_keep, heard_keeps}
 
@@ -187,30 +190,47 @@ module _ (iface from : ℕ) where
           and_false true false = refl
           and_false false b = refl
 
-      not_refused : is_refused h place ≡ false
-      not_refused = ap is_refusal (sym (one_of_one (note_at h place) allowed))
+      -- no filter keeps a loss out
+      not_refused : would_bring h place e ≡ false → is_refused h place ≡ false
+      not_refused none = ap is_refusal (sym (one_of_one (note_at h place) allowed))
         where
+          passes : refusal_at h place e ≡ None
+          passes = takes_withdrawal h.config h.gateway.iface e (would_bring h place e) (brought_after h place) (ap (λ m. nat_lt m 16) metric) none
+
           allowed : Contains (None ∷ []) (note_at h place)
           allowed =
               subst (λ (a : List (Option NoteKind)). Contains a (note_at h place))
-              (ap₂ (λ b f. cond b (None ∷ []) (notes_of_offer h place e f)) not_next_hop no_flaw ∙ ap (λ b. cond b (notes_of_new h place) (None ∷ [])) adds_none)
+              (ap₂ (λ b f. cond b (None ∷ []) (notes_of_offer h place e f)) not_next_hop no_flaw
+              ∙ ap (notes_by_refusal h place e) passes
+              ∙ ap (λ b. cond b (notes_of_new h place) (None ∷ [])) adds_none)
               (heard.noted place e is)
 
           one_of_one : (x : Option NoteKind) → Contains (None ∷ []) x → None ≡ x
           one_of_one x (zero, h, e) = e
           one_of_one x (suc k, h, e) = absurd (omega arith)
 
-      meant : ((is_offer e && same_prefix (prefix_named e) p) && not (is_refused h place)) ≡ true
-      meant =
-          ap₂ (λ a b. a && not b)
-          (ap₂ (λ a b. a && b) offered (ap (λ q. same_prefix q p) names ∙ same_prefix-itself p))
-          not_refused
+      meant : (b : Bool) → is_refused h place ≡ b → ((is_offer e && same_prefix (prefix_named e) p) && not (is_refused h place)) ≡ not b
+      meant b = ap₂ (λ a b. a && not b) (ap₂ (λ a b. a && b) offered (ap (λ q. same_prefix q p) names ∙ same_prefix-itself p))
+
+      -- a limit refuses it only where no route of the interface is held
+      not_by : is_refused h place ≡ true → OfRoute HasEnded (route_after h place p)
+      not_by refused = subst (λ q. OfRoute HasEnded (route_after h place q)) names (by_route (route_after h place (prefix_named e)) (brings (would_bring h place e) refl))
+        where
+          middle : (a b c : Bool) → (a && not b && c) ≡ true → b ≡ false
+          middle true true c t = absurd (clash (sym t))
+          middle true false c t = refl
+          middle false b c t = absurd (clash (sym t))
+
+          brings : (b : Bool) → would_bring h place e ≡ b → is_by h.gateway.iface (route_after h place (prefix_named e)) ≡ false
+          brings true is = middle (is_offer e) (is_by h.gateway.iface (route_after h place (prefix_named e))) _ is
+          brings false is = absurd (clash (sym refused ∙ not_refused is))
+
+          by_route : (old : Option RouteValue) → is_by h.gateway.iface old ≡ false → OfRoute HasEnded old
+          by_route None none = tt
+          by_route (Some r) none = λ next_hop origin. absurd (clash (sym (ap (is_learned_on h.gateway.iface) origin ∙ eq-eqb iface h.gateway.iface (sym here)) ∙ none))
 
       ended_here : OfRoute CanEnd (map_of.get h.before p) → OfRoute HasEnded (route_after h (place + 1) p)
-      ended_here can =
-          subst (OfRoute HasEnded)
-          (sym (after_one h place e p is ∙ ap (λ b. cond b (adopted h.gateway (route_after h place p) (at_place place e)) (route_after h place p)) meant))
-          (ends h.gateway (at_place place e) metric here source (route_after h place p) before)
+      ended_here can = by (is_refused h place) refl
         where
           none : (n : ℕ) → 0 + n ≡ n
           none n = omega arith
@@ -219,6 +239,16 @@ module _ (iface from : ℕ) where
           before =
               subst (λ n. OfRoute CanEnd (route_after h n p)) (none place)
               (entries_keep CanEnd can_end_kept h (λ o. ⊤) (take_live h.gateway) (λ place e is. tt) p 0 place (omega (arith, inside)) (subst (OfRoute CanEnd) (sym (before_all h p)) can))
+
+          either : (b : Bool) → is_refused h place ≡ b → OfRoute HasEnded (cond (not b) (adopted h.gateway (route_after h place p) (at_place place e)) (route_after h place p))
+          either true refused = not_by refused
+          either false refused = ends h.gateway (at_place place e) metric here source (route_after h place p) before
+
+          by : (b : Bool) → is_refused h place ≡ b → OfRoute HasEnded (route_after h (place + 1) p)
+          by b refused =
+              subst (OfRoute HasEnded)
+              (sym (after_one h place e p is ∙ ap (λ t. cond t (adopted h.gateway (route_after h place p) (at_place place e)) (route_after h place p)) (meant b refused)))
+              (either b refused)
 
       pub loss_ends : OfRoute CanEnd (map_of.get h.before p) → OfRoute HasEnded (map_of.get after p)
       loss_ends can =

@@ -153,7 +153,7 @@ module _ (net : Network) (distinct : HasDistinctAddresses net) (usable : IsUsabl
           local : is_link_local x.source ≡ true
           local = ap is_link_local (source_is net sent other i there) ∙ usable.local sent.router sent.iface there.here there.here_is
 
-          own : is_own_address (config_of node) x.source ≡ false
+          own : is_own_address (config_of node) x.iface x.source ≡ false
           own = not_mine net distinct sent other i (record s { config = config_of node }) node node_is refl there (λ same. apart (same ∙ ours.by_router))
 
       only_one : (b : Bool) → (x.iface == on && x.source == from && is_heard s x) ≡ b → AllByRecursion (IsOf (e ∷ events)) (cond b (x.bytes ∷ []) [])

@@ -33,4 +33,3 @@ mod LastUpdateDelivered
 mod LinkDown
 mod PacketExamples
 pub mod TwoDaemons
-mod AnyhowExample

@@ -3,10 +3,10 @@ use Rattle.std.proofs.Common.{◌≡◌, inl, inr, ℕ, ◌+◌, ◌<◌, ◌≤
 use Rattle.std.specs.List.{AllByRecursion, cons_option}
 use Rattle.route_table.proofs.TableLaws.{Some-same}
 use Rattle.router_core.specs.Config.{Config}
-use Rattle.router_core.specs.Machine.{Happening, Arrives, Ticks}
+use Rattle.router_core.specs.Machine.{Happening, Arrives, Ticks, LinkComesUp}
 use Rattle.ripngd_engine.specs.Link.{Call, Gave, Silent, RecvFailed, Handed}
 use Rattle.ripngd_engine.specs.Run.{Machine, Trace, MovedOrLost, arrival}
-use Rattle.ripngd_networks.specs.Daemons.{Act, Start, Listen, Tick, Reconfigure, Shutdown, LinkDown, LinkUp, Refuse, Deed, Happened, Does, HearsCall, Lives, own_deeds}
+use Rattle.ripngd_networks.specs.Daemons.{Act, Start, Listen, Tick, Reconfigure, Shutdown, LinkDown, LinkUp, Ask, Refuse, Deed, Happened, Does, HearsCall, Lives, own_deeds}
 use Rattle.ripngd_networks.specs.OnTime.{IsPlain}
 
 -- ---- the count never falls
@@ -37,7 +37,11 @@ did_up config Tick m t n plain did = step_up (record m { stream = did.1.stream }
 did_up config (Reconfigure c) m t n plain did = absurd plain
 did_up config Shutdown m t n plain did = absurd plain
 did_up config (LinkDown on) m t n plain did = absurd plain
-did_up config (LinkUp on) m t n plain did = absurd plain
+did_up config (LinkUp on) m t n plain did = step_up m (LinkComesUp did.1.0 on) did.1.0 t n (inl did.1.1)
+did_up config (Ask on) m t n plain did = elim did.1 [
+  | inl asks ↦ step_up m (LinkComesUp asks.0 on) asks.0 t n (inl asks.1)
+  | inr nothing ↦ same_up m n nothing.2
+]
 did_up config Refuse m t n plain did = same_up m n did.1.2
 
 -- one that is not up does nothing but come up
@@ -48,7 +52,8 @@ down_does config Tick t n plain did = did
 down_does config (Reconfigure c) t n plain did = plain
 down_does config Shutdown t n plain did = plain
 down_does config (LinkDown on) t n plain did = plain
-down_does config (LinkUp on) t n plain did = plain
+down_does config (LinkUp on) t n plain did = did
+down_does config (Ask on) t n plain did = did
 down_does config Refuse t n plain did = did
 
 abbrev pub ArePlain : List Deed → Type 0

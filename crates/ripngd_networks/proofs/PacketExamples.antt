@@ -33,13 +33,13 @@ abbrev local : ℕ → ℕ
 local n = 0xfe80_0000_0000_0000_0000_0000_0000_0000 + n
 
 abbrev interface : ℕ → ℕ → ℕ → NetInterface
-interface n dear link = record { interface = record { addr = local n; cost = dear; mtu = 1500 }; link = link }
+interface n dear link = record { interface = record { addr = local n; cost = dear; mtu = 1500; zone = 0 }; link = link }
 
 abbrev net : Network
 net =
-    record { interfaces = interface 1 14 1 ∷ []; prefixes = []; quiet = false }
-    ∷ record { interfaces = interface 2 1 1 ∷ interface 3 1 2 ∷ []; prefixes = (short, 0) ∷ []; quiet = false }
-    ∷ record { interfaces = interface 4 1 2 ∷ []; prefixes = (long, 0) ∷ []; quiet = false }
+    record { interfaces = interface 1 14 1 ∷ []; prefixes = []; quiet = false; filters = []; limits = [] }
+    ∷ record { interfaces = interface 2 1 1 ∷ interface 3 1 2 ∷ []; prefixes = (short, 0) ∷ []; quiet = false; filters = []; limits = [] }
+    ∷ record { interfaces = interface 4 1 2 ∷ []; prefixes = (long, 0) ∷ []; quiet = false; filters = []; limits = [] }
     ∷ []
 
 abbrev across : Hop
@@ -161,7 +161,7 @@ arrive =
       few_hops = omega arith;
       prefix = long;
       tag = 0;
-      owner = record { node = record { interfaces = interface 4 1 2 ∷ []; prefixes = (long, 0) ∷ []; quiet = false }; node_is = refl; place = 0; listed = refl };
+      owner = record { node = record { interfaces = interface 4 1 2 ∷ []; prefixes = (long, 0) ∷ []; quiet = false; filters = []; limits = [] }; node_is = refl; place = 0; listed = refl };
       holds = (low, refl);
       no_shorter = λ hop first. let is = matches_short hop first in omega arith;
     }

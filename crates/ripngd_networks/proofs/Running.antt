@@ -14,7 +14,7 @@ use Rattle.ripng_world.proofs.Members.{At, at_right, at_from_contains}
 use Rattle.ripng_phases.specs.Phases as phases
 use Rattle.ripngd_engine.specs.Link.{Gave, Silent, RecvFailed, Handed}
 use Rattle.ripngd_engine.specs.Run.{Machine}
-use Rattle.ripngd_networks.specs.Daemons.{Act, Start, Listen, Tick, Reconfigure, Shutdown, LinkDown, LinkUp, Refuse, Deed, Happened, Does, Lives, reconfiguration_by, reconfigurations_by, own_deeds}
+use Rattle.ripngd_networks.specs.Daemons.{Act, Start, Listen, Tick, Reconfigure, Shutdown, LinkDown, LinkUp, Ask, Refuse, Deed, Happened, Does, Lives, reconfiguration_by, reconfigurations_by, own_deeds}
 use Rattle.ripngd_networks.specs.Links.{handed_by, IsOfTheLink, IsOfAStranger, IsGiven, AreGiven, HaveRun, IsRunOf, LiveOn, all_handed}
 use Rattle.ripngd_networks.specs.OnTime.{IsNumbered}
 use Rattle.ripngd_networks.proofs.Addresses.{addresses_of}
@@ -79,6 +79,7 @@ numbered net handed_over router config (Reconfigure c) given = (None, tt)
 numbered net handed_over router config Shutdown given = (None, tt)
 numbered net handed_over router config (LinkDown on) given = (None, tt)
 numbered net handed_over router config (LinkUp on) given = (None, tt)
+numbered net handed_over router config (Ask on) given = (None, tt)
 numbered net handed_over router config Refuse given = (None, tt)
 
 -- so the world goes on with deeds
@@ -160,7 +161,7 @@ pub record IsSimulated (net : Network) (order : List Happened) (daemons : ℕ �
 
 pub simulated_from_cold : (net : Network) (order : List Happened) (daemons : ℕ → Option Machine) → HaveRun net order daemons → IsSimulated net order daemons
 simulated_from_cold net order daemons ran =
-    let cold = cold_world net in
+    let cold = cold_world net ran.zoned in
     let on = simulated net cold.1.sent order (λ router. None) daemons [] [] cold.1 (cold_agrees net cold.0 cold.1 cold.2) ran.known ran.lives ran.given in
     record { moments = cold.0; cold = cold.1; is_cold = cold.2; events = on.events; after = on.after; run = on.run; agrees = on.agrees }
 

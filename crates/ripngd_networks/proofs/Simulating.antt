@@ -16,7 +16,7 @@ use Rattle.ripng_phases.specs.Phases.{Step, events_of, reached}
 use Rattle.ripngd_engine.specs.Link.{Gave, Silent, RecvFailed, Handed}
 use Rattle.ripngd_engine.specs.Run.{Machine, Trace, counted}
 use Rattle.ripngd_networks.specs.Ages.{IsLook, IsStart, KeepsTick, LivesTicking}
-use Rattle.ripngd_networks.specs.Daemons.{Act, Start, Listen, Tick, Reconfigure, Shutdown, LinkDown, LinkUp, Refuse, Deed, Happened, Does, Lives, own_deeds, reconfiguration_by, reconfigurations_by}
+use Rattle.ripngd_networks.specs.Daemons.{Act, Start, Listen, Tick, Reconfigure, Shutdown, LinkDown, LinkUp, Ask, Refuse, Deed, Happened, Does, Lives, own_deeds, reconfiguration_by, reconfigurations_by}
 use Rattle.ripngd_networks.specs.Links.{LiveOn, handed_by}
 use Rattle.ripngd_networks.specs.OnTime.{AreNumbered, Dated, undated}
 use Rattle.ripngd_networks.proofs.Deeds.{Agrees, IsEventOf, IsIdle, IsStepOf, change_done, done_on, with_daemon, world_after}
@@ -61,7 +61,9 @@ event_then count router Shutdown number trace e answer is =
 event_then count router (LinkDown on) number trace e answer is =
     record { router_is = ap router_of is.1; moment = is.2 ∙ ap (λ n. n ∷ []) (sym (ap moment_of is.1)); looks = λ look. absurd look; starts = λ start. absurd start }
 event_then count router (LinkUp on) number trace e answer is =
-    record { router_is = ap router_of is.1; moment = is.2 ∙ ap (λ n. n ∷ []) (sym (ap moment_of is.1)); looks = λ look. absurd look; starts = λ start. absurd start }
+    record { router_is = ap router_of is.1; moment = is.2.moments ∙ ap (λ n. n ∷ []) (sym (ap moment_of is.1)); looks = λ look. absurd look; starts = λ start. absurd start }
+event_then count router (Ask on) number trace e answer is =
+    record { router_is = ap router_of is.1; moment = is.2.moments ∙ ap (λ n. n ∷ []) (sym (ap moment_of is.1)); looks = λ look. absurd look; starts = λ start. absurd start }
 event_then count router Refuse number trace e answer is = absurd is
 
 -- and the change that it does is the deed's
@@ -81,6 +83,7 @@ change_then count router deed number e answer is = by deed.act number is
     by Shutdown number is = ap reconfiguration_in is.1
     by (LinkDown on) number is = ap reconfiguration_in is.1
     by (LinkUp on) number is = ap reconfiguration_in is.1
+    by (Ask on) number is = ap reconfiguration_in is.1
     by Refuse number is = absurd is
 
 -- what is idle is no look that is kept, and no change
@@ -99,6 +102,7 @@ idle_then daemon h n idle keeps = by h.deed.act daemon idle keeps
     by Shutdown daemon idle keeps = absurd idle
     by (LinkDown on) daemon idle keeps = absurd idle
     by (LinkUp on) daemon idle keeps = absurd idle
+    by (Ask on) daemon idle keeps = (λ look. look, refl)
     by Refuse daemon idle keeps = (λ look. look, refl)
 
 -- ---- all deeds

@@ -6,7 +6,7 @@ use Rattle.router_core.specs.declared.answer.Answer.{Answer}
 use Rattle.ripng_world.specs.Network.{Network, config_of}
 use Rattle.ripngd_engine.specs.Link.{Call, Gave, Silent, RecvFailed, Handed}
 use Rattle.ripngd_engine.specs.Run.{Machine, Trace, MovedOrLost, arrival}
-use Rattle.ripngd_networks.specs.Daemons.{Act, Start, Listen, Tick, Reconfigure, Shutdown, LinkDown, LinkUp, Refuse, Deed, Does, Happened, HearsCall, Lives, own_deeds}
+use Rattle.ripngd_networks.specs.Daemons.{Act, Start, Listen, Tick, Reconfigure, Shutdown, LinkDown, LinkUp, Ask, Refuse, Deed, Does, Happened, HearsCall, Lives, own_deeds}
 use Rattle.ripngd_networks.specs.Links.{HaveRun}
 use Rattle.ripngd_networks.proofs.Running.{there_is}
 use Rattle.ripngd_networks.proofs.Winding.{arrived_wound, ticked_wound}
@@ -70,6 +70,10 @@ does_set config (Some m) (Reconfigure c) t n set did = moved_set m.router (Recon
 does_set config (Some m) Shutdown t n set did = moved_set m.router (ShutsDown did.1.0) did.1.1.answer n.router set did.1.1.moves
 does_set config (Some m) (LinkDown on) t n set did = moved_set m.router (LinkGoesDown did.1.0 on) did.1.1.answer n.router set did.1.1.moves
 does_set config (Some m) (LinkUp on) t n set did = moved_set m.router (LinkComesUp did.1.0 on) did.1.1.answer n.router set did.1.1.moves
+does_set config (Some m) (Ask on) t n set did = elim did.1 [
+  | inl asks ↦ moved_set m.router (LinkComesUp asks.0 on) asks.1.answer n.router set asks.1.moves
+  | inr nothing ↦ same_set m n nothing.2 set
+]
 does_set config (Some m) Refuse t n set did = same_set m n did.1.2 set
 does_set config None (Listen call) t n set did = absurd did
 does_set config None Tick t n set did = absurd did
@@ -77,6 +81,7 @@ does_set config None (Reconfigure c) t n set did = absurd did
 does_set config None Shutdown t n set did = absurd did
 does_set config None (LinkDown on) t n set did = absurd did
 does_set config None (LinkUp on) t n set did = absurd did
+does_set config None (Ask on) t n set did = absurd did
 does_set config None Refuse t n set did = absurd did
 
 life_set : (config : Config) (before : Option Machine) (deeds : List Deed) (m : Machine) → IfUp before → Lives config before deeds (Some m) → IsSet m.router

@@ -13,7 +13,7 @@ use Rattle.router_core.specs.declared.arrival.Fault.{Fault}
 use Rattle.router_core.specs.declared.arrival.Fault.TheVariants.{Wire, NotRipngPort, NotLinkLocal, OwnAddress, HopLimit, EmptyRequest}
 
 abbrev neighbors : Config → Received → Bool → List (Bool × Fault)
-neighbors config x far = (not (is_link_local x.source), NotLinkLocal) ∷ (is_own_address config x.source, OwnAddress) ∷ (far, HopLimit) ∷ []
+neighbors config x far = (not (is_link_local x.source), NotLinkLocal) ∷ (is_own_address config x.iface x.source, OwnAddress) ∷ (far, HopLimit) ∷ []
 
 abbrev fault_by : Config → Received → Bool → Option Fault
 fault_by config x far =

@@ -4,7 +4,7 @@ use Rattle.std.proofs.lemmas.Bool.Decides.{nat_tests}
 use Rattle.ripng_wire.specs.Wire.{is_response}
 use Rattle.router_core.specs.Ageing.{aged_table, unmarked}
 use Rattle.router_core.specs.Faults.{fault}
-use Rattle.router_core.specs.Machine.{State, Happening, Arrives, Ticks, Hears, Replies, Refuses, Moves, is_regular_due, is_triggered_due, ticked}
+use Rattle.router_core.specs.Machine.{State, Happening, Arrives, Ticks, LinkComesUp, Hears, Replies, Refuses, Moves, is_regular_due, is_triggered_due, ticked}
 use Rattle.router_core.specs.Received.{Received}
 use Rattle.router_core.specs.declared.answer.Answer.{Answer}
 use Rattle.router_core.specs.declared.arrival.Fault.{Fault}
@@ -126,5 +126,11 @@ state_then net w w' (Tick to now word) answer behind bound router s plain m is w
 state_then net w w' (Restart to now) answer behind bound router s plain m is wound in_time = absurd plain
 state_then net w w' (Shutdown to now) answer behind bound router s plain m is wound in_time = absurd plain
 state_then net w w' (LinkDown to now on) answer behind bound router s plain m is wound in_time = absurd plain
-state_then net w w' (LinkUp to now on) answer behind bound router s plain m is wound in_time = absurd plain
+state_then net w w' (LinkUp to now on) answer behind bound router s plain m is wound in_time =
+    moved_then w w' (LinkUp to now on) behind bound router s is wound to (LinkComesUp now on) answer m now in_time
+    (λ old. subst (IsWound (max m.old.last now)) (sym m.moves.state) (refl, later m.old.regular m.old.last now old))
+    (λ same. inr (ap (λ (t : State). t.regular) m.moves.state))
+  where
+    later : (a b c : ℕ) → a ≤ b + 45_000 → a ≤ max b c + 45_000
+    later a b c e = omega arith
 state_then net w w' (Reconfigure to now c) answer behind bound router s plain m is wound in_time = absurd plain

@@ -7,7 +7,7 @@ pub use Rattle.rand_core.specs.Stream.{Stream}
 pub use Rattle.ripng_wire.specs.Wire.{is_response}
 pub use Rattle.ripng_world.specs.Convergence.{IsNeverQuiet}
 pub use Rattle.ripng_world.specs.Healing.{FitsTablesSince, IsHealed, network_now}
-pub use Rattle.ripng_world.specs.Network.{Network, Node, AreLinked, config_of, IsNetwork, OwnsPrefixes}
+pub use Rattle.ripng_world.specs.Network.{Network, Node, AreLinked, AreZoned, config_of, IsNetwork, OwnsPrefixes}
 pub use Rattle.ripng_world.specs.Packets.{Forwardings, PacketsArriveBy}
 pub use Rattle.ripng_world.specs.Past.{Past, IsBackedSince, IsLeastSince, OwnsSince}
 pub use Rattle.ripng_world.specs.TruthSince.{IsSoundDatagramSince}

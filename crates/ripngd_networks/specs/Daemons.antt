@@ -1,9 +1,10 @@
 -- What a daemon does from its first start on: one act after another, each as the engine's own definitions say.
-use Rattle.std.specs.Prelude.{◌≡◌, ℕ, ◌==◌, if◌then◌else◌, List, [], ◌∷◌, map, filter_map, option_map, Option, None, Some, false}
+use Rattle.std.specs.Prelude.{◌≡◌, ℕ, ◌==◌, ◌⊎◌, if◌then◌else◌, List, [], ◌∷◌, map, filter_map, option_map, Option, None, Some, false}
 use Rattle.ripngd_networks.specs.Below.{Stream, Config, Change, ReconfiguresOnce, ShutsDownOnce, LinkGoesDownOnce, LinkComesUpOnce, ReconfiguresNothing, Call, RecvFailed, Machine, Trace, ComesUp, TakesIn, TicksOnce, followed_by, one_call}
 
--- a daemon comes up; it asks its link once, and takes in what that gave; it ticks; its configuration is changed; it shuts down; a
--- link of it goes down; one comes up; one of these four is refused
+-- a daemon comes up; it listens to its link once, and takes in what that gave; it ticks; its configuration is changed; it shuts down;
+-- a link of it goes down; one comes up; by itself it asks its neighbors on a link for their tables (RFC 2080, 2.4.1); one of the four
+-- that it is told to do is refused
 pub data Act : Type 0 where
   Start : Act
   Listen : Call → Act
@@ -12,6 +13,7 @@ pub data Act : Type 0 where
   Shutdown : Act
   LinkDown : ℕ → Act
   LinkUp : ℕ → Act
+  Ask : ℕ → Act
   Refuse : Act
 
 -- the change that an act does, if it does one
@@ -33,7 +35,8 @@ abbrev pub HearsCall : Call → Machine → Trace → Machine → Type 0
 HearsCall RecvFailed m t n = (t ≡ one_call RecvFailed) × (n ≡ m)
 HearsCall call m t n = (taken : Trace) × TakesIn call m taken n × (t ≡ followed_by (one_call call) taken)
 
--- a daemon that runs does so. One that ran out of memory for its forwarding table has ended
+-- a daemon that runs does so. To ask is the router's step of a link that comes up, or memory for it was refused. One that ran out of
+-- memory for its forwarding table has ended
 abbrev pub Goes : Act → Machine → Trace → Machine → Type 0
 Goes Start m t n = ⊥
 Goes (Listen call) m t n = (m.ended ≡ false) × HearsCall call m t n
@@ -42,6 +45,7 @@ Goes (Reconfigure c) m t n = (m.ended ≡ false) × ReconfiguresOnce c m t n
 Goes Shutdown m t n = (m.ended ≡ false) × ShutsDownOnce m t n
 Goes (LinkDown on) m t n = (m.ended ≡ false) × LinkGoesDownOnce on m t n
 Goes (LinkUp on) m t n = (m.ended ≡ false) × LinkComesUpOnce on m t n
+Goes (Ask on) m t n = (m.ended ≡ false) × (LinkComesUpOnce on m t n ⊎ ReconfiguresNothing m t n)
 Goes Refuse m t n = (m.ended ≡ false) × ReconfiguresNothing m t n
 
 -- the configuration in force: that of the first start, or that of the daemon, as it was changed

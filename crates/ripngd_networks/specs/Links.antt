@@ -1,6 +1,6 @@
 -- Networks of daemons, and all that is known of the links between them.
 use Rattle.std.specs.Prelude.{◌≡◌, ℕ, ◌<◌, ◌&&◌, ◌⊎◌, ⊤, List, [], ◌∷◌, ◌++◌, length, map, filter_map, flat_map, Contains, Option, None, Some, is_none, slice_get, IsFalse}
-use Rattle.ripngd_networks.specs.Below.{AllByRecursion, is_response, Config, fault, Outgoing, Network, Node, AreLinked, config_of, Past, World, Event, IsCold, WorldRun, address_at, sent_by, Sent, Call, Datagram, Gave, Handed, Machine, arrival}
+use Rattle.ripngd_networks.specs.Below.{AllByRecursion, is_response, Config, fault, Outgoing, Network, Node, AreLinked, AreZoned, config_of, Past, World, Event, IsCold, WorldRun, address_at, sent_by, Sent, Call, Datagram, Gave, Handed, Machine, arrival}
 use Rattle.ripngd_networks.specs.Daemons.{Act, Listen, Happened, Lives, reconfigurations_by, own_deeds}
 
 -- the datagram that a call handed to a link, if it is such a call
@@ -49,8 +49,9 @@ LiveOn net order daemons daemons' =
     (router : ℕ) (node : Node) → slice_get net router ≡ Some node → Lives (config_of node) (daemons router) (own_deeds router order) (daemons' router)
 
 -- a network of daemons ran: all their deeds in an order in which they happened, of which each daemon's own are its life, from
--- no daemon at all on, over such links
+-- no daemon at all on, over such links. To each router a link is in one zone (RFC 4007, 5), as it is where no zone is named
 pub record HaveRun (net : Network) (order : List Happened) (daemons : ℕ → Option Machine) : Type 0 where
+  pub zoned : AreZoned net
   pub known : AllByRecursion (λ h. h.router < length net) order
   pub lives : LiveOn net order (λ router. None) daemons
   pub given : AreGiven net [] order

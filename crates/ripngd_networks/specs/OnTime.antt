@@ -1,7 +1,7 @@
 -- Networks of daemons by one true clock, in milliseconds, which no daemon sees: what is known of links and daemons that heal.
 --
 -- The law is `daemons_heal`. Whatever daemons did before: for 28 minutes none is started anew, shut down or reconfigured, no link goes
--- down or comes up, and none runs out of memory. Each ticks every half second, by a clock that is a constant behind the true one, within
+-- down, and none runs out of memory. Each ticks every half second, by a clock that is a constant behind the true one, within
 -- less than half a second. Links keep order, lose no regular update, and take less than 13 seconds. Then each forwarding table has
 -- exactly the least costs of now.
 --
@@ -11,7 +11,7 @@
 use Rattle.std.specs.Prelude.{◌≡◌, ◌≢◌, ℕ, ◌+◌, ◌-◌, ◌^◌, ◌<◌, ◌≤◌, max, ◌⊎◌, ⊤, List, [], ◌∷◌, ◌++◌, map, length, All, Contains, Option, Some, None, slice_get}
 use Rattle.ripngd_networks.specs.Below.{AllByRecursion, Forward, Forwarding, Prefix6, infinity, Config, Note, NoMemory, Fault, Network, Node, AreLinked, config_of, IsLeast, Sent, Datagram, Gave, Machine, Processed, Arrived}
 use Rattle.std.specs.FinMap as map_of
-use Rattle.ripngd_networks.specs.Daemons.{Act, Start, Listen, Tick, Reconfigure, Shutdown, LinkDown, LinkUp, Happened, Lives, own_deeds}
+use Rattle.ripngd_networks.specs.Daemons.{Act, Start, Listen, Tick, Reconfigure, Shutdown, LinkDown, Happened, Lives, own_deeds}
 use Rattle.ripngd_networks.specs.Links.{IsCopyOf, IsOfAStranger, LiveOn, handed_by, all_handed}
 
 -- ---- deeds by the true clock
@@ -46,13 +46,13 @@ AreNumbered net handed (t ∷ history) =
 
 -- ---- daemons that go on
 
--- it starts no daemon anew and shuts none down, takes no link down or up, and changes no configuration
+-- it starts no daemon anew and shuts none down, takes no link down, and changes no configuration. A link may come up, and a daemon may
+-- ask its neighbors for their tables: that changes no table
 abbrev pub IsPlain : Act → Type 0
 IsPlain Start = ⊥
 IsPlain (Reconfigure c) = ⊥
 IsPlain Shutdown = ⊥
 IsPlain (LinkDown on) = ⊥
-IsPlain (LinkUp on) = ⊥
 IsPlain _ = ⊤
 
 -- a daemon ticks, from one moment on and before another
@@ -78,7 +78,7 @@ pub record GoOn (net : Network) (before : List Happened) (daemons : ℕ → Opti
   pub given : AreNumbered net (all_handed before) history
   pub in_time : HappenFrom start history
   pub ended : AllByRecursion (λ t. t.at < end) history
-  -- none is started anew, shut down or reconfigured, and no link goes down or comes up
+  -- none is started anew, shut down or reconfigured, and no link goes down
   pub plain : AllByRecursion (λ t. IsPlain t.happened.deed.act) history
   -- each ticks every half second
   pub ticks : (router from : ℕ) → router < length net → start ≤ from → from + 500 ≤ end → IsTickIn history router from (from + 500)

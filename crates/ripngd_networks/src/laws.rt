@@ -33,7 +33,7 @@ pub fn daemons_run_as_networks()
 /// So daemons invent no distance: each route of each daemon below 16 is backed by a walk at costs in force since the first starts,
 /// and none is below the least such cost. With no change done, the walk is one of the network as it is configured. The forwarding
 /// table of a daemon that has not ended is that of its routes, and each entry that a daemon ever advertised is true. Interfaces may
-/// have any addresses.
+/// have any addresses; those of a router on one link are in one zone.
 pub fn daemons_invent_no_distance()
     ensures backed { (net : Network) (order : List Happened) (daemons : ℕ → Option Machine) → OwnsPrefixes net → HaveRun net order daemons
         → (router : ℕ) (m : Machine) (p : Prefix6) (r : RouteValue) → router < length net → daemons router ≡ Some m
@@ -58,9 +58,10 @@ pub fn daemons_invent_no_distance()
 {}
 
 /// Networks of daemons heal by themselves. Whatever was before, let daemons run for 28 minutes of a true clock that none of them
-/// sees. No daemon starts, shuts down or is reconfigured, no link goes down or comes up, each daemon ticks every half second, and
-/// memory suffices. Links keep order, lose no regular update, and take less than 13 seconds. Then each daemon holds, and forwards by,
-/// exactly the least costs of now, at each moment from then on while these conditions last.
+/// sees. No daemon starts, shuts down or is reconfigured, no link goes down, each daemon ticks every half second, and memory suffices.
+/// Links keep order, lose no regular update, and take less than 13 seconds. Links may come up meanwhile, and daemons may ask for tables
+/// whenever they like. Then each daemon holds, and forwards by, exactly the least costs of now, at each moment from then on while
+/// these conditions last.
 pub fn daemons_heal()
     ensures healed { (net : Network) (before : List Happened) (daemons daemons' : ℕ → Option Machine) (history : List Dated) (start stop : ℕ)
         → IsNetwork net → IsNeverQuiet net → HaveRun net before daemons → FitsTablesSince (past_of_daemons net before)

@@ -5,7 +5,7 @@ use Rattle.std.specs.Vec.Iter.{into_iter_items}
 use Rattle.ripng_wire.specs.Wire.{first_reason}
 use Rattle.router_core.specs.Config.{IsConfig, reasons_of_each}
 use Rattle.router_core.proofs.ReasonsOfEach.{PassesBelow, passes_all, take_all}
-use Rattle.ripng_world.specs.Network.{Node, config_of}
+use Rattle.ripng_world.specs.Network.{Node, HasNoLists, config_of}
 use Rattle.ripng_world.specs.NetworkFaults.{faults_of_router, router_reasons}
 use Rattle.ripng_world.proofs.NetworkLaws.{passes_on, fails_at, next_lawful}
 use Rattle.ripng_world.proofs.network.check_routers.Goals as goal
@@ -37,7 +37,7 @@ loop-node-preserved c =
       passes = subst (λ (k : ℕ). PassesBelow router_reasons nodes k) (sym c.push_reserved.ensures.len)
           (passes_on nodes taken rest c.in-Some.node n is c.loop-node.routers.ok.0 c.loop-node.invariant.passes
           (subst (λ (k : ℕ). first_reason (faults_of_router k c.in-Some.node) ≡ None) c.len-number.ensures c.in_ok-check_router.ensures.passes));
-      lawful = subst (λ (k : ℕ). All (λ m. IsConfig (config_of m)) (take k nodes)) (sym c.push_reserved.ensures.len)
+      lawful = subst (λ (k : ℕ). All (λ m. IsConfig (config_of m) × HasNoLists m) (take k nodes)) (sym c.push_reserved.ensures.len)
           (next_lawful nodes taken rest c.in-Some.node n is c.loop-node.routers.ok.0 c.loop-node.invariant.lawful c.in_ok-check_router.ensures.lawful);
       room = omega (arith, c.loop-node.invariant.room, ap length c.in-Some.ensures.steps.0, c.push_reserved.ensures.len, c.push_reserved.ensures.capacity);
     }
@@ -55,5 +55,5 @@ returns-clause-passes c =
 
 pub returns-clause-lawful : goal.returns-clause-lawful
 returns-clause-lawful c =
-    subst (All (λ m. IsConfig (config_of m))) (take_all (into_iter_items c.into_iter-node-iterator.result) c.loop-node.routers.len (all_taken c) ∙ c.into_iter-node-iterator.ensures.into_iter_gives.0)
+    subst (All (λ m. IsConfig (config_of m) × HasNoLists m)) (take_all (into_iter_items c.into_iter-node-iterator.result) c.loop-node.routers.len (all_taken c) ∙ c.into_iter-node-iterator.ensures.into_iter_gives.0)
     c.loop-node.invariant.lawful

@@ -3,7 +3,7 @@ use Rattle.std.specs.Vec.{vec_capacity}
 use Rattle.std.specs.Vec.Iter.{into_iter_items}
 use Rattle.router_core.specs.Config.{IsConfig}
 use Rattle.router_core.proofs.ReasonsOfEach.{PassesBelow}
-use Rattle.ripng_world.specs.Network.{config_of}
+use Rattle.ripng_world.specs.Network.{HasNoLists, config_of}
 use Rattle.ripng_world.specs.NetworkFaults.{router_reasons}
 use Rattle.ripng_world.proofs.network.check_routers.Given as goal
 
@@ -13,6 +13,6 @@ invariant-loop-node l = record {
   is_finite : (goal.iterator-loop-node).is_finite l.node-iterator;
   kept : l.routers.items ++ into_iter_items l.node-iterator ≡ into_iter_items l.initial.node-iterator;
   passes : PassesBelow router_reasons (into_iter_items l.initial.node-iterator) (vec_len l.routers);
-  lawful : All (λ node. IsConfig (config_of node)) (take (vec_len l.routers) (into_iter_items l.initial.node-iterator));
+  lawful : All (λ node. IsConfig (config_of node) × HasNoLists node) (take (vec_len l.routers) (into_iter_items l.initial.node-iterator));
   room : vec_len l.routers + length (into_iter_items l.node-iterator) ≤ vec_capacity l.routers;
 }

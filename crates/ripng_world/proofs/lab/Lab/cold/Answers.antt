@@ -55,13 +55,13 @@ module _ (g : _) (c : goal.After-new g) where
 
   started : IsCold c.network.inside.routers.items c.args.moments.now (world_of c.loop-router.stations.items c.loop-router.sent.items [])
   started =
-      all_cold c.loop-router.stations.items c.network.inside.routers.items c.args.moments.now c.loop-router.sent.items c.loop-router.stations.len are (c.requires ∙ sym (ap length c.network.view_is)) c.loop-router.stations.ok.0
+      all_cold c.loop-router.stations.items c.network.inside.routers.items c.args.moments.now c.loop-router.sent.items c.loop-router.stations.len c.network.invariant.1 are (c.requires ∙ sym (ap length c.network.view_is)) c.loop-router.stations.ok.0
       c.loop-router.invariant.cold
 
   has_run : HasRun (network_of c.loop-router.stations.items) (world_of c.loop-router.stations.items c.loop-router.sent.items c.new.result.items)
   has_run =
       record {
-        lawful = subst IsNetwork (sym are) c.network.invariant;
+        lawful = subst IsNetwork (sym are) c.network.invariant.0;
         moments = c.args.moments.now;
         events = [];
         cold = world_of c.loop-router.stations.items c.loop-router.sent.items c.new.result.items;
@@ -75,3 +75,8 @@ returns-clause-keeps g c = keeps _ (has_run g c)
 
 pub invariant_of-result : goal.invariant_of-result
 invariant_of-result g c = has_run g c
+
+pub returns-clause-cold : goal.returns-clause-cold
+returns-clause-cold g c =
+    subst (λ (cs : List (ℕ × Change)). IsCold c.args.network c.args.moments.now (world_of c.loop-router.stations.items c.loop-router.sent.items cs)) (sym c.new.ensures.items)
+    (subst (λ (net : Network). IsCold net c.args.moments.now (world_of c.loop-router.stations.items c.loop-router.sent.items [])) c.network.view_is (started g c))

@@ -16,7 +16,7 @@ use Rattle.ripng_phases.specs.Ages.{Lead, IsAwake, IsRecent, StaysUp}
 use Rattle.ripng_phases.specs.Minutes.{AreFrom, Timed, untimed}
 use Rattle.ripng_phases.specs.Phases.{reached}
 use Rattle.ripng_phases.proofs.EachPlace.{AtEachPlace, at_each_place, head_is, tail_is}
-use Rattle.ripng_phases.proofs.TwoRouters.{doc, owned, facing, nodes, get_one, state, owner, learner, no_route, one_route, learned, told_once, entry_of, datagram, request, install_own, start_answer, update_answer, learn_answer, owner_starts, learner_starts, updates, learns_route, fits_doc}
+use Rattle.ripng_phases.proofs.TwoRouters.{doc, owned, facing, nodes, get_one, state, owner, learner, no_route, one_route, learned, told_once, entry_of, datagram, request, install_own, start_answer, update_answer, learn_answer, owner_starts, learner_starts, updates, learns_route, zoned, fits_doc}
 
 -- ---- what is sent
 
@@ -37,7 +37,7 @@ world first second sent = record { states = first ∷ second ∷ []; sent = sent
 abbrev owner_at : (last regular : ℕ) → State
 owner_at last regular = state owner (one_route (owned_route 0)) last regular 0
 
-abbrev w0 : World
+abbrev pub w0 : World
 w0 = world (owner_at 0 0) (state learner no_route 0 0 0) (asks 0 ∷ asks 1 ∷ [])
 
 abbrev w1 : World
@@ -52,11 +52,11 @@ w3 = world (owner_at 190_000 205_000) (state learner no_route 0 0 0) (asks 0 ∷
 abbrev w4 : World
 w4 = world (owner_at 190_000 205_000) (state learner (one_route (learned 300)) 300 0 0) (asks 0 ∷ asks 1 ∷ update ∷ asks 1 ∷ update ∷ [])
 
-abbrev w5 : World
+abbrev pub w5 : World
 w5 = world (owner_at 190_000 205_000) (state learner (one_route (told_once (learned 300))) 10_000 25_000 0) (asks 0 ∷ asks 1 ∷ update ∷ asks 1 ∷ update ∷ poison ∷ [])
 
 pub is_cold : IsCold nodes (0 ∷ 0 ∷ []) w0
-is_cold = record { starts = (start_answer install_own, asks 1 ∷ [], owner_starts 0, (start_answer [], [], learner_starts 0, refl, refl), refl); unchanged = refl }
+is_cold = record { zoned = zoned; starts = (start_answer install_own, asks 1 ∷ [], owner_starts 0, (start_answer [], [], learner_starts 0, refl, refl), refl); unchanged = refl }
 
 -- ---- the history
 
@@ -78,7 +78,7 @@ comes = timed 190_300 (Deliver 4 1 0 300) learn_answer w4
 abbrev tells : Timed
 tells = timed 200_000 (Tick 1 10_000 0) (update_answer (learned 300)) w5
 
-abbrev history : List Timed
+abbrev pub history : List Timed
 history = early ∷ anew ∷ late ∷ comes ∷ tells ∷ []
 
 steps : Lead nodes w0 (untimed history) w5

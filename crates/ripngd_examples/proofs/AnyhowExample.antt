@@ -49,7 +49,7 @@ poisons = dated 50_300 1 Tick (sends (update (learned 200)) 300 []) None
 abbrev until_told : List Dated
 until_told = first_up ∷ second_up ∷ asked ∷ anew ∷ tells ∷ []
 
-abbrev history : List Dated
+abbrev pub history : List Dated
 history = first_up ∷ second_up ∷ asked ∷ anew ∷ tells ∷ told ∷ poisons ∷ []
 
 -- ---- the daemons
@@ -58,7 +58,7 @@ abbrev no_daemon : ℕ → Option Machine
 no_daemon router = None
 
 module _ (stream : Stream) where
-  abbrev daemons : ℕ → Option Machine
+  abbrev pub daemons : ℕ → Option Machine
   daemons zero = Some (owner_is 50_000 (next_regular 50_000 (word_of stream)) 0 (left stream))
   daemons (suc zero) = Some (learner_with (told_once (learned 200)) 300 (next_regular 300 (word_of stream)) 0 (left stream))
   daemons (suc (suc n)) = None

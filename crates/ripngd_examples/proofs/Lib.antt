@@ -1,0 +1,2 @@
+mod RecentExample
+mod AnyhowExample
