@@ -1,10 +1,7 @@
--- When two ports differ, and when two peers do not clash.
-use Rattle.std.proofs.Common.{◌≡◌, ◌≢◌, ◌==◌, ◌||◌, ℕ, Bool, false, arith}
+-- When two peers do not clash.
+use Rattle.std.proofs.Common.{◌≡◌, ◌==◌, ◌||◌, Bool, false, arith}
 use Rattle.ripngd_config.specs.Twice.{AreApart}
 use Rattle.ripngd_engine.specs.declared.peer.Peer.{Peer}
-
-pub ports_apart : (p q : ℕ) → (p == q) ≡ false → p ≢ q
-ports_apart p q h = grind arith
 
 -- the test that two peers meet which clash
 abbrev pub peers_clash : Peer → Peer → Bool

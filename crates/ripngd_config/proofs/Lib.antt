@@ -5,3 +5,4 @@ pub mod Texts
 pub mod Pairs
 pub mod Clashes
 pub mod OneEach
+pub mod Ranges

@@ -1,6 +1,7 @@
 -- What a configuration's text makes a router run on, and why a text is refused.
-use Rattle.std.specs.Prelude.{◌≡◌, ◌⊎◌, ℕ, Bool, List, length, map, Some, None, unwrap_or, ⊤, IsUtf8}
-use Rattle.ripngd_config.specs.Below.{Members, parse_document, pcg32_seed, pcg32_of_seed, Prefix6, Config as RouterConfig, IsConfig, config, config_fault, Interface, ConfigFault, BadToml, OutOfMemory, Router, Place, Document, PrefixTable}
+use Rattle.std.specs.Prelude.{◌≡◌, ◌⊎◌, ◌+◌, ℕ, Bool, List, [], ◌∷◌, ◌++◌, length, map, Option, Some, None, unwrap_or, ⊤, IsUtf8}
+use Rattle.ripngd_config.specs.Below.{Members, parse_document, pcg32_seed, pcg32_of_seed, Prefix6, Config as RouterConfig, IsConfig, config_with, config_fault, Interface, Action, Accept, Reject, Filter, Limit, ConfigFault, BadToml, OutOfMemory, Router, Place, Document, InterfaceTable, PrefixTable}
+use Rattle.ripngd_config.specs.declared.range.Range.{Range}
 use Rattle.ripngd_config.specs.Faults.{RefusesKey, TableHas}
 use Rattle.ripngd_config.specs.Keys.{document_keys}
 use Rattle.ripngd_config.specs.Tables.{IsDocument}
@@ -21,11 +22,35 @@ owned_by tag d = map (owned_of tag) d.prefixes.items
 
 -- where its interfaces stand
 abbrev pub places_of : Document → List Place
-places_of d = map (λ t. record { addr = t.interface.addr; local_port = t.local_port; group_port = t.group_port }) d.interfaces.items
+places_of d = map (λ t. record { addr = t.interface.addr; socket = t.socket }) d.interfaces.items
 
--- what the router's own check is given
+-- a filter of an interface, for a range of its lists
+abbrev pub filter_of : ℕ → Action → Range → Filter
+filter_of iface action r = record { iface = iface; action = action; prefix = r.prefix; is_longer = r.is_longer }
+
+-- the filters of an interface: those that accept, and those that reject
+abbrev pub filters_at : ℕ → InterfaceTable → List Filter
+filters_at iface t = map (filter_of iface Accept) t.accept.items ++ map (filter_of iface Reject) t.reject.items
+
+-- the filters of interfaces, of which the first has this number
+abbrev pub filters_from : ℕ → List InterfaceTable → List Filter
+filters_from iface [] = []
+filters_from iface (t ∷ ts) = filters_at iface t ++ filters_from (iface + 1) ts
+
+-- the limit of an interface, if it has one
+abbrev pub limit_of : ℕ → Option ℕ → List Limit
+limit_of iface None = []
+limit_of iface (Some routes) = record { iface = iface; routes = routes } ∷ []
+
+-- the limits of interfaces, of which the first has this number
+abbrev pub limits_from : ℕ → List InterfaceTable → List Limit
+limits_from iface [] = []
+limits_from iface (t ∷ ts) = limit_of iface t.limit ++ limits_from (iface + 1) ts
+
+-- what the router runs on
 abbrev pub router_config_of : ℕ → Bool → Document → RouterConfig
-router_config_of tag quiet d = config (configured_interfaces d) (owned_by tag d) quiet
+router_config_of tag quiet d =
+    config_with (configured_interfaces d) (owned_by tag d) quiet (filters_from 0 d.interfaces.items) (limits_from 0 d.interfaces.items)
 
 -- the text is UTF-8 and TOML, and its tables say this
 pub record Says (text : List ℕ) (d : Document) : Type 0 where

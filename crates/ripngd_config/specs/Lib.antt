@@ -1,4 +1,5 @@
 pub mod Keys
+pub mod Ranges
 pub mod Faults
 pub mod Values
 pub mod Tables

@@ -1,6 +1,8 @@
 -- What the values of a configuration are read as.
 use Rattle.std.specs.Prelude.{◌≡◌, ◌≤◌, ℕ, pos, Bool, List, [], ◌∷◌, Option, MatchOption, IsSomeAnd, Some}
 use Rattle.ripngd_config.specs.Below.{Data, Items, Members, as_array, as_str, as_table, boolean, get_member, integer, item, no_items, Prefix6, Reads, ReadsPrefix}
+use Rattle.ripngd_config.specs.Ranges.{ReadsRange}
+use Rattle.ripngd_config.specs.declared.range.Range.{Range}
 
 -- a number from low to high
 abbrev pub IsNumber : ℕ → ℕ → Data → ℕ → Type 0
@@ -18,6 +20,10 @@ IsAddress d a = IsSomeAnd (as_str d) (λ text. Reads text a)
 abbrev pub IsPrefixValue : Data → Prefix6 → Type 0
 IsPrefixValue d p = IsSomeAnd (as_str d) (λ text. ReadsPrefix text p)
 
+-- a text that is read as the range
+abbrev pub IsRange : Data → Range → Type 0
+IsRange d r = IsSomeAnd (as_str d) (λ text. ReadsRange text r)
+
 -- a truth value
 abbrev pub IsTruth : Data → Bool → Type 0
 IsTruth d b = d ≡ boolean b
@@ -30,12 +36,16 @@ IsReadAt ReadsAs key default ms x = MatchOption (get_member key ms) (default ≡
 abbrev pub IsItem : {X : Type 0} → (Members → X → Type 0) → Data → X → Type 0
 IsItem R d x = IsSomeAnd (as_table d) (λ ms. R ms x)
 
--- tables that are read as these values, one by one
-abbrev pub AreTables : {X : Type 0} → (Members → X → Type 0) → Items → List X → Type 0
-AreTables R no_items xs = xs ≡ []
-AreTables R (item d rest) [] = ⊥
-AreTables R (item d rest) (x ∷ xs) = IsItem R d x × AreTables R rest xs
+-- members of an array that are read as these values, one by one
+abbrev pub AreItems : {X : Type 0} → (Data → X → Type 0) → Items → List X → Type 0
+AreItems R no_items xs = xs ≡ []
+AreItems R (item d rest) [] = ⊥
+AreItems R (item d rest) (x ∷ xs) = R d x × AreItems R rest xs
 
--- an array of such tables
+-- an array of such members
+abbrev pub IsArray : {X : Type 0} → (Data → X → Type 0) → Data → List X → Type 0
+IsArray R d xs = IsSomeAnd (as_array d) (λ items. AreItems R items xs)
+
+-- an array of tables that are read so
 abbrev pub AreSections : {X : Type 0} → (Members → X → Type 0) → Data → List X → Type 0
-AreSections R d xs = IsSomeAnd (as_array d) (λ items. AreTables R items xs)
+AreSections R = IsArray (IsItem R)

@@ -4,6 +4,7 @@ ghost use Rattle.std.specs.Prelude.{◌≡◌, IfErr, IfOk, map};
 ghost use Rattle.ripngd_config.specs.Common.{HasOneEach, IsConfigured, RefusesConfig, RefusesRouter, RefusesText, Says, owned_by, places_of, router_config_of, IsConfig};
 
 use crate::fault::{ConfigFault, Read};
+use crate::lists::{filters_of, limits_of};
 use crate::naming::{end_of, refused_part};
 use crate::section::{FromSection, Section};
 use crate::tables::{Document, InterfaceTable};
@@ -86,8 +87,10 @@ fn router_of(alloc: Global, document: &Document, tag: u16, quiet: bool) -> Read<
 {
     let interfaces = interfaces_of(alloc, &document.interfaces)?;
     let owned = owned_by(alloc, document, tag)?;
+    let filters = filters_of(alloc, &document.interfaces)?;
+    let limits = limits_of(alloc, &document.interfaces)?;
     match RouterConfig::check(interfaces, owned, quiet) {
-        Ok(router) => Ok(router),
+        Ok(router) => Ok(router.filtered(filters, limits)),
         Err(why) => Err(ConfigFault::Router(why, refused_part(alloc, document, why)?)),
     }
 }
@@ -117,8 +120,7 @@ fn places_of(alloc: Global, document: &Document) -> Result<Vec<Place>, AllocErro
         .iter()
         .map(|table| Place {
             addr: table.interface.addr,
-            local_port: table.local_port,
-            group_port: table.group_port,
+            socket: table.socket,
         })
         .collect(alloc)
 }

@@ -6,7 +6,9 @@
 
 mod configuration;
 mod fault;
+mod lists;
 mod naming;
+mod range;
 mod section;
 mod tables;
 mod twice;

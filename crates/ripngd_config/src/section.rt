@@ -1,7 +1,7 @@
 //! Reads a TOML table key by key. A missing or wrong value ends it with a refusal that has the path of the key.
 
-ghost use Rattle.std.specs.Prelude.{◌≡◌, [], true, false, IfErr, IfOk, OnOk, None, Some, is_none, map, option_map};
-ghost use Rattle.ripngd_config.specs.Common.{Members, get_member, table_view, view, ItemHas, KeyHas, RefusesKey, TableHas, OtherHas, HasOnlyOf, Keys, address, number, prefix, sections, truth, AreSections, IsAddress, IsItem, IsNumber, IsPrefixValue, IsReadAt, IsSomeNumber, IsTruth};
+ghost use Rattle.std.specs.Prelude.{◌≡◌, [], true, false, IfErr, IfOk, OnOk, None, Some, is_none, is_some, map, option_map};
+ghost use Rattle.ripngd_config.specs.Common.{Data, Members, get_member, table_view, view, KeyHas, KindHas, RefusesKey, TableHas, OtherHas, HasOnlyOf, Keys, Kind, address, array, number, prefix, table, truth, IsAddress, IsArray, IsItem, IsNumber, IsPrefixValue, IsReadAt, IsSomeNumber, IsTruth};
 
 use crate::fault::{ConfigFault, Read};
 use prefix6::{Addr6, Prefix, parse_addr, parse_prefix};
@@ -22,6 +22,13 @@ impl<'a> Section<'a> {
         ensures { option_map (λ v. view v.now) result ≡ get_member key.now (table_view self.now.table.now) }
     {
         self.table.get(key)
+    }
+
+    /// Whether the table has a key.
+    pub fn has(&self, key: &str) -> bool
+        ensures { result ≡ is_some (get_member key.now (table_view self.now.table.now)) }
+    {
+        self.get(key).is_some()
     }
 
     fn path_of(&self, key: &str) -> Result<String, AllocError> {
@@ -55,6 +62,17 @@ impl<'a> Section<'a> {
     {
         match self.get(key) {
             Some(_) => Ok(Some(self.number(key, low, 65_535, None)? as u16)),
+            None => Ok(None),
+        }
+    }
+
+    /// The number of an optional key that counts routes, from 1 to 65,536.
+    pub fn optional_count(&self, key: &str) -> Read<Option<u32>>
+        ensures read { IfOk result (IsReadAt (IsSomeNumber 1 65536) key.now (Some None) (table_view self.now.table.now)) }
+        ensures fault { IfErr result (RefusesKey (KeyHas key.now false (number 1 65536) (table_view self.now.table.now))) }
+    {
+        match self.get(key) {
+            Some(_) => Ok(Some(self.number(key, 1, 65_536, None)? as u32)),
             None => Ok(None),
         }
     }
@@ -123,8 +141,8 @@ impl<'a> Section<'a> {
 
 /// A value that is read from a whole table.
 pub(crate) trait FromSection: Sized {
-    // The keys of such a table.
-    ghost keys: { Keys };
+    // The keys that such a table may have.
+    ghost keys: { Members → Keys };
 
     // Which value a table is read as.
     ghost is_read: { Members → Self → Type 0 };
@@ -135,27 +153,43 @@ pub(crate) trait FromSection: Sized {
         ensures fault { IfErr result (RefusesKey (TableHas keys (table_view section.entry.table.now))) };
 }
 
-/// A member of the array of a key, which must be a table.
-fn member_of<T: FromSection>(section: Section<'_>, key: &str, index: usize, item: &Value) -> Read<T>
-    ensures read { IfOk result (IsItem T.is_read (view item.now)) }
-    ensures fault { IfErr result (RefusesKey (ItemHas (TableHas T.keys) (view item.now))) }
-{
-    let place = format!(in section.alloc; "{}{key}[{index}]", section.path)?;
-    let Some(table) = item.as_table() else {
-        return Err(ConfigFault::WrongType(place));
-    };
-    let path = format!(in section.alloc; "{place}.")?;
-    T::from_section(Section {
-        table,
-        path: path.as_str(),
-        ..section
-    })
+/// A value that is read from one member of an array.
+pub(crate) trait FromItem: Sized {
+    // What such a member holds.
+    ghost kind: { Kind };
+
+    // Which value it is read as.
+    ghost is_item: { Data → Self → Type 0 };
+
+    /// Reads a member of an array of this section, of which this is the path.
+    fn from_item(section: Section<'_>, path: String, item: &Value) -> Read<Self>
+        ensures read { IfOk result (is_item (view item.now)) }
+        ensures fault { IfErr result (RefusesKey (KindHas kind (view item.now))) };
+}
+
+/// A member of an array that must be a table.
+impl<T: FromSection> FromItem for T {
+    ghost kind = { table T.keys };
+
+    ghost is_item = { IsItem T.is_read };
+
+    fn from_item(section: Section<'_>, path: String, item: &Value) -> Read<T> {
+        let Some(table) = item.as_table() else {
+            return Err(ConfigFault::WrongType(path));
+        };
+        let path = format!(in section.alloc; "{path}.")?;
+        T::from_section(Section {
+            table,
+            path: path.as_str(),
+            ..section
+        })
+    }
 }
 
 /// The members of the array of a key, in order; an empty list if there is no such key.
-pub(crate) fn tables_at<T: FromSection + Drop>(section: Section<'_>, key: &str) -> Read<Vec<T>>
-    ensures read { IfOk result (λ v. IsReadAt (AreSections T.is_read) key.now (Some []) (table_view section.entry.table.now) v.items) }
-    ensures fault { IfErr result (RefusesKey (KeyHas key.now false (sections T.keys) (table_view section.entry.table.now))) }
+pub(crate) fn items_at<T: FromItem + Drop>(section: Section<'_>, key: &str) -> Read<Vec<T>>
+    ensures read { IfOk result (λ v. IsReadAt (IsArray T.is_item) key.now (Some []) (table_view section.entry.table.now) v.items) }
+    ensures fault { IfErr result (RefusesKey (KeyHas key.now false (array T.kind) (table_view section.entry.table.now))) }
 {
     let Some(value) = section.get(key) else {
         return Ok(Vec::new(section.alloc));
@@ -164,9 +198,10 @@ pub(crate) fn tables_at<T: FromSection + Drop>(section: Section<'_>, key: &str) 
         return Err(ConfigFault::WrongType(section.path_of(key)?));
     };
     let items = array.as_slice();
-    let mut tables = Vec::with_capacity(section.alloc, items.len())?;
+    let mut found = Vec::with_capacity(section.alloc, items.len())?;
     for (index, item) in items.iter().enumerate() {
-        tables.push_reserved(member_of(section, key, index, item)?);
+        let path = format!(in section.alloc; "{}{key}[{index}]", section.path)?;
+        found.push_reserved(T::from_item(section, path, item)?);
     }
-    Ok(tables)
+    Ok(found)
 }

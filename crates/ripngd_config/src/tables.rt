@@ -1,11 +1,14 @@
 //! The tables of a configuration, each with its keys in the order in which they are read.
 
+ghost use Rattle.std.specs.Prelude.{◌≡◌, IfErr, IfOk, OnOk, true, false};
 ghost use Rattle.ripngd_config.specs.Common.{document_keys, interface_keys, peer_keys, prefix_keys, IsDocument, IsInterfaceTable, IsPeer, IsPrefixTable};
+ghost use Rattle.ripngd_config.specs.Common.{keys_with, local_keys, names_of, real_keys, is_real, is_real_table, table_view, ArePeers, HasOnly, HasOnlyOf, IsSocket, LinkRefuses, RefusesOf};
 
 use crate::fault::Read;
-use crate::section::{FromSection, Section, tables_at};
+use crate::range::Range;
+use crate::section::{FromSection, Section, items_at};
 use prefix6::Prefix;
-use ripngd_engine::Peer;
+use ripngd_engine::{Peer, Socket};
 use router_core::Interface;
 
 impl FromSection for Peer {
@@ -26,12 +29,89 @@ impl FromSection for Peer {
     }
 }
 
-/// An interface, its local port and group port, and its peers.
+/// The sockets of an interface, and its peers.
+type SocketAndPeers = (Socket, Vec<Peer>);
+
+/// The sockets of a real link, and no peers: its neighbors are those that send there.
+fn real_link(section: Section<'_>) -> Read<SocketAndPeers>
+    ensures socket { IfOk result (λ r. IsSocket (table_view section.entry.table.now) r.0) }
+    ensures real { IfOk result (λ r. is_real r.0 ≡ true) }
+    ensures peers { IfOk result (λ r. ArePeers (table_view section.entry.table.now) r.0 r.1.items) }
+    ensures only { OnOk result (HasOnlyOf (names_of (keys_with real_keys)) (table_view section.entry.table.now)) }
+    ensures fault { IfErr result (RefusesOf real_keys (table_view section.entry.table.now)) }
+{
+    let socket = Socket::Inherited {
+        alone: section.number("descriptor", 3, 65_535, None)? as u16,
+        group: section.number("group_descriptor", 3, 65_535, None)? as u16,
+        far: section.optional_number("far_descriptor", 3)?,
+    };
+    section.only(&[
+        "address",
+        "cost",
+        "mtu",
+        "zone",
+        "accept",
+        "reject",
+        "limit",
+        "descriptor",
+        "group_descriptor",
+        "far_descriptor",
+    ])?;
+    Ok((socket, Vec::new(section.alloc)))
+}
+
+/// A port of 127.0.0.1 in place of a real link, and the peers there.
+fn local_link(section: Section<'_>) -> Read<SocketAndPeers>
+    ensures socket { IfOk result (λ r. IsSocket (table_view section.entry.table.now) r.0) }
+    ensures real { IfOk result (λ r. is_real r.0 ≡ false) }
+    ensures peers { IfOk result (λ r. ArePeers (table_view section.entry.table.now) r.0 r.1.items) }
+    ensures only { OnOk result (HasOnlyOf (names_of (keys_with local_keys)) (table_view section.entry.table.now)) }
+    ensures fault { IfErr result (RefusesOf local_keys (table_view section.entry.table.now)) }
+{
+    let socket = Socket::Local {
+        port: section.number("local_port", 1, 65_535, None)? as u16,
+        group_port: section.optional_number("group_port", 1)?,
+    };
+    let peers = items_at(section, "peer")?;
+    section.only(&[
+        "address",
+        "cost",
+        "mtu",
+        "zone",
+        "accept",
+        "reject",
+        "limit",
+        "local_port",
+        "group_port",
+        "peer",
+    ])?;
+    Ok((socket, peers))
+}
+
+/// The sockets of an interface, and its peers: of a real link where it has the key `descriptor`. Keys of the other kind of link are
+/// unknown.
+fn link_of(section: Section<'_>) -> Read<SocketAndPeers>
+    ensures real { IfOk result (λ r. is_real r.0 ≡ is_real_table (table_view section.entry.table.now)) }
+    ensures socket { IfOk result (λ r. IsSocket (table_view section.entry.table.now) r.0) }
+    ensures peers { IfOk result (λ r. ArePeers (table_view section.entry.table.now) r.0 r.1.items) }
+    ensures only { OnOk result (HasOnly interface_keys (table_view section.entry.table.now)) }
+    ensures fault { IfErr result (LinkRefuses (table_view section.entry.table.now)) }
+{
+    if section.has("descriptor") {
+        real_link(section)
+    } else {
+        local_link(section)
+    }
+}
+
+/// An interface, its lists and its limit, its sockets, and its peers.
 #[derive(Debug, Drop)]
 pub(crate) struct InterfaceTable {
     pub interface: Interface,
-    pub local_port: u16,
-    pub group_port: Option<u16>,
+    pub accept: Vec<Range>,
+    pub reject: Vec<Range>,
+    pub limit: Option<u32>,
+    pub socket: Socket,
     pub peers: Vec<Peer>,
 }
 
@@ -41,18 +121,24 @@ impl FromSection for InterfaceTable {
     ghost is_read = { IsInterfaceTable };
 
     fn from_section(section: Section<'_>) -> Read<InterfaceTable> {
-        let table = InterfaceTable {
-            interface: Interface {
-                addr: section.address("address")?,
-                cost: section.number("cost", 0, 255, None)? as u8,
-                mtu: section.number("mtu", 0, 4_294_967_295, Some(1280))? as u32,
-            },
-            local_port: section.number("local_port", 1, 65_535, None)? as u16,
-            group_port: section.optional_number("group_port", 1)?,
-            peers: tables_at(section, "peer")?,
+        let interface = Interface {
+            addr: section.address("address")?,
+            cost: section.number("cost", 0, 255, None)? as u8,
+            mtu: section.number("mtu", 0, 4_294_967_295, Some(1280))? as u32,
+            zone: section.number("zone", 0, 65_535, Some(0))? as u16,
         };
-        section.only(&["address", "cost", "mtu", "local_port", "group_port", "peer"])?;
-        Ok(table)
+        let accept = items_at(section, "accept")?;
+        let reject = items_at(section, "reject")?;
+        let limit = section.optional_count("limit")?;
+        let (socket, peers) = link_of(section)?;
+        Ok(InterfaceTable {
+            interface,
+            accept,
+            reject,
+            limit,
+            socket,
+            peers,
+        })
     }
 }
 
@@ -92,8 +178,8 @@ impl FromSection for Document {
     fn from_section(section: Section<'_>) -> Read<Document> {
         let document = Document {
             seed: section.number("seed", 0, 9_223_372_036_854_775_807, Some(0))?,
-            interfaces: tables_at(section, "interface")?,
-            prefixes: tables_at(section, "prefix")?,
+            interfaces: items_at(section, "interface")?,
+            prefixes: items_at(section, "prefix")?,
         };
         section.only(&["seed", "interface", "prefix"])?;
         Ok(document)

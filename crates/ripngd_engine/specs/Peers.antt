@@ -1,8 +1,15 @@
--- Neighbors on the link of an interface.
-use Rattle.std.specs.Prelude.{◌==◌, ◌||◌, Bool, List}
+-- Neighbors on the link of an interface, and whether the link is real.
+use Rattle.std.specs.Prelude.{◌==◌, ◌||◌, Bool, true, false, List}
 use Rattle.std.specs.List.{list_any}
 use Rattle.ripngd_engine.specs.declared.peer.Peer.{Peer}
+use Rattle.ripngd_engine.specs.declared.peer.Socket.{Socket}
+use Rattle.ripngd_engine.specs.declared.peer.Socket.TheVariants.{Local, Inherited}
 
 -- one of these has the address or the local port of the peer
 abbrev pub has_clash : List Peer → Peer → Bool
 has_clash peers peer = list_any (λ q. q.addr == peer.addr || q.local_port == peer.local_port) peers
+
+-- the sockets are those of a real link
+abbrev pub is_real : Socket → Bool
+is_real (Local port group_port) = false
+is_real (Inherited alone group far) = true

@@ -109,7 +109,7 @@ impl<S: RouteStore, L: Link, C: TimeSource, R: Rng + Drop> Engine<S, L, C, R> {
     }
 
     /// Makes turns as `turns` does, and notifies an observer, in order, of each arrival with what the router made of it, and then of
-    /// each datagram that was handed to the link. An arrival that is lost for want of memory is not reported.
+    /// each datagram that was handed to the link. An arrival that is lost because memory was refused is not reported.
     ///
     /// # Errors
     /// As `turns`. The observer is notified of all that was done until then, the step that ran out of memory included.

@@ -40,6 +40,6 @@ pub use laws::turns_go_on;
 pub use lines::{ChangeLine, RouteLine, first_line, write_entries};
 pub use link::{Link, LinkChange, LinkFault, Received};
 pub use observer::{Arrived, NoObserver, TrafficObserver};
-pub use peer::{Peer, Place, has_clash};
+pub use peer::{Peer, Place, Sender, Socket, has_clash};
 pub use report::{ChangeFault, EngineFault, Report};
 pub use transcript::{Entry, Transcript};

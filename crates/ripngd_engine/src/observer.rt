@@ -26,7 +26,7 @@ pub trait TrafficObserver {
     ghost takes: { Self → LinkReport → Self → Type 0 };
 
     /// A datagram was processed: when and where it arrived, its bytes, and why it was dropped, or the notes on its entries. One that
-    /// was lost for want of memory is not reported.
+    /// was lost because memory was refused is not reported.
     fn processed(&mut self, arrived: Arrived, bytes: &[u8], fault: Option<Fault>, notes: &[Note])
         ensures { takes self.old (Processed arrived bytes.now fault notes.now) self.new };
 

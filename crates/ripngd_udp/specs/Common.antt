@@ -5,8 +5,10 @@ pub use Rattle.std.specs.IoError.{error_kind}
 pub use Rattle.std.specs.Result.{result_err}
 pub use Rattle.ripng_wire.specs.Wire.{first_reason}
 pub use Rattle.ripngd_engine.specs.Link.{Handed, recv_call}
+pub use Rattle.ripngd_engine.specs.Peers.{is_real}
 pub use Rattle.ripngd_udp.specs.Counting.{Grows}
-pub use Rattle.ripngd_udp.specs.Peers.{peer_refused_text, adding_fault, has_peer_address, is_group_port, links_at, on_link, removing_reasons_at, with_peer, without_peer, ChangesLink, RefusesFor, removing_fault, OnLink}
+pub use Rattle.ripngd_udp.specs.Peers.{peer_refused_text, adding_fault, group_port_of, has_peer_address, is_group_port, links_at, on_link, removing_reasons_at, with_peer, without_peer, ChangesLink, RefusesFor, removing_fault, OnLink}
 pub use Rattle.ripngd_udp.specs.ReceiveQueue.{Gives, HasRoom, Keeps, MayWait, bytes_of}
-pub use Rattle.ripngd_udp.specs.SendQueue.{share_among, goes_at_once, waiting_after}
-pub use Rattle.ripngd_udp.specs.Udp.{NamesPortOf, new_link, GoesOn, SendsLate, PortsState, LinkState}
+pub use Rattle.ripngd_udp.specs.SendQueue.{share_among, rate_among, real_rate, rate_of, goes_at_once, waiting_after}
+pub use Rattle.ripngd_udp.specs.Real.{real_sender}
+pub use Rattle.ripngd_udp.specs.Udp.{NamesSocketOf, new_link, GoesOn, SendsLate, PortsState, LinkState}

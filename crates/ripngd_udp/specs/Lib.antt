@@ -1,5 +1,6 @@
 pub mod Peers
 pub mod Udp
+pub mod Real
 pub mod Moments
 pub mod SendQueue
 pub mod ReceiveQueue

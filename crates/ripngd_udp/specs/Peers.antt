@@ -1,12 +1,15 @@
--- The peers on the link of an interface, how they change while the router runs, and why a change is refused.
+-- Who is on the link of an interface: its peers, how they change while the router runs, and why a change is refused; on a real link
+-- whoever sends.
 use Rattle.std.specs.Prelude.{◌≡◌, ◌==◌, not, nat_le, ℕ, Bool, true, List, [], ◌∷◌, ◌++◌, false, length, Option, None, Some, codes, slice_get, slice_set}
 use Rattle.std.specs.List.{filter, list_any}
 use Rattle.ripng_wire.specs.Wire.{first_reason}
-use Rattle.ripngd_engine.specs.Peers.{has_clash}
+use Rattle.ripngd_engine.specs.Peers.{has_clash, is_real}
 use Rattle.ripngd_engine.specs.declared.peer.Peer.{Peer}
 use Rattle.ripngd_engine.specs.declared.peer.Place.{Place}
+use Rattle.ripngd_engine.specs.declared.peer.Socket.{Socket}
+use Rattle.ripngd_engine.specs.declared.peer.Socket.TheVariants.{Local, Inherited}
 use Rattle.ripngd_udp.specs.declared.peer_refused.PeerRefused.{PeerRefused}
-use Rattle.ripngd_udp.specs.declared.peer_refused.PeerRefused.TheVariants.{NoSuchInterface, BadPort, PortTwice, OwnAddress, PeerTwice, PeersFull, NoSuchPeer, OutOfMemory}
+use Rattle.ripngd_udp.specs.declared.peer_refused.PeerRefused.TheVariants.{NoSuchInterface, BadPort, PortTwice, OwnAddress, PeerTwice, PeersFull, NoSuchPeer, OutOfMemory, RealLink}
 
 -- an interface on its link: its addresses, and its peers
 pub record OnLink : Type 0 where
@@ -27,6 +30,11 @@ links_at (place ∷ places) (peers ∷ lists) = on_link place peers ∷ links_at
 abbrev pub has_peer_address : List Peer → ℕ → Bool
 has_peer_address peers addr = list_any (λ p. p.addr == addr) peers
 
+-- the port for the group, where there is one
+abbrev pub group_port_of : Socket → Option ℕ
+group_port_of (Local port group_port) = group_port
+group_port_of (Inherited alone group far) = None
+
 -- the port is that for the group
 abbrev pub is_port : Option ℕ → ℕ → Bool
 is_port None port = false
@@ -34,7 +42,7 @@ is_port (Some p) port = p == port
 
 -- it is the group port of one of these
 abbrev pub is_group_port : List OnLink → ℕ → Bool
-is_group_port links port = list_any (λ i. is_port i.place.group_port port) links
+is_group_port links port = list_any (λ i. is_port (group_port_of i.place.socket) port) links
 
 -- ---- which changes are refused: each reason, with whether it applies
 
@@ -47,7 +55,7 @@ peer_reasons i peer =
 abbrev pub adding_reasons_at : List OnLink → Option OnLink → Peer → List (Bool × PeerRefused)
 adding_reasons_at links None peer = (true, NoSuchInterface) ∷ []
 adding_reasons_at links (Some i) peer =
-    (peer.local_port == 0, BadPort) ∷ (is_group_port links peer.local_port, PortTwice) ∷ peer_reasons i peer
+    (is_real i.place.socket, RealLink) ∷ (peer.local_port == 0, BadPort) ∷ (is_group_port links peer.local_port, PortTwice) ∷ peer_reasons i peer
 
 -- the first reason not to add a peer
 abbrev pub adding_fault : List OnLink → ℕ → Peer → Option PeerRefused
@@ -93,3 +101,4 @@ peer_refused_text PeerTwice = codes "64 PeerTwice"
 peer_refused_text PeersFull = codes "65 PeersFull"
 peer_refused_text NoSuchPeer = codes "66 NoSuchPeer"
 peer_refused_text OutOfMemory = codes "67 OutOfMemory"
+peer_refused_text RealLink = codes "68 RealLink"

@@ -1,7 +1,7 @@
 -- How datagrams that came to an interface wait for the router, and are given to it.
 use Rattle.std.specs.Prelude.{ℕ, ◌≡◌, ◌+◌, ◌<◌, ◌≤◌, ◌++◌, Bool, MatchBool, List, [], ◌∷◌, length, min, take, vec_len}
 use Rattle.std.specs.List.{sum_by}
-use Rattle.ripngd_engine.specs.declared.peer.Peer.{Peer}
+use Rattle.ripngd_engine.specs.declared.peer.Sender.{Sender}
 use Rattle.ripngd_engine.specs.declared.link.Received.{Received}
 use Rattle.ripngd_udp.specs.declared.receive_queue.Datagram.{Datagram}
 use Rattle.ripngd_udp.specs.Udp.{as_of}
@@ -19,21 +19,21 @@ pub record MayWait (waiting : List Datagram) : Type 0 where
 abbrev pub HasRoom : List Datagram → ℕ → Type 0
 HasRoom waiting len = (length waiting < 16384) × (bytes_of waiting + len ≤ 33554432)
 
--- a datagram of that peer waits after the others
-pub record Behind (waiting after : List Datagram) (peer : Peer) (bytes : List ℕ) : Type 0 where
+-- a datagram of that sender waits after the others
+pub record Behind (waiting after : List Datagram) (sender : Sender) (bytes : List ℕ) : Type 0 where
   pub last : Datagram
   pub in_order : after ≡ waiting ++ last ∷ []
-  pub peer_is : last.peer ≡ peer
+  pub sender_is : last.sender ≡ sender
   pub bytes_are : last.bytes.items ≡ bytes
 
 -- it waits after the others, or only this one is lost
-abbrev pub Keeps : List Datagram → List Datagram → Peer → List ℕ → Bool → Type 0
-Keeps waiting after peer bytes kept = MatchBool kept (Behind waiting after peer bytes) (after ≡ waiting)
+abbrev pub Keeps : List Datagram → List Datagram → Sender → List ℕ → Bool → Type 0
+Keeps waiting after sender bytes kept = MatchBool kept (Behind waiting after sender bytes) (after ≡ waiting)
 
--- the first datagram is given, as one of its peer on the interface, as much of it as fits the buffer
+-- the first datagram is given, as one of its sender on the interface, as much of it as fits the buffer
 pub record Gives (iface : ℕ) (waiting after : List Datagram) (buffer : List ℕ) (r : Received) : Type 0 where
   pub first : Datagram
   pub in_order : waiting ≡ first ∷ after
-  pub as_peer : r ≡ as_of first.peer iface r.len
+  pub as_sent : r ≡ as_of first.sender iface r.len
   pub len_is : r.len ≡ min (vec_len first.bytes) (length buffer)
   pub bytes_are : take r.len buffer ≡ take r.len first.bytes.items

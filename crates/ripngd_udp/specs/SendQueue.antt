@@ -1,10 +1,31 @@
 -- How datagrams wait to be sent on an interface.
 use Rattle.std.specs.Prelude.{ℕ, ◌++◌, ◌/◌, ◌==◌, ◌&&◌, ◌||◌, Bool, true, false, if◌then◌else◌, List, [], ◌∷◌, length, max, nat_le, nat_lt}
 use Rattle.router_core.specs.declared.answer.Outgoing.{Outgoing}
+use Rattle.ripngd_udp.specs.declared.pace.Rate.{Rate}
+use Rattle.ripngd_engine.specs.declared.peer.Socket.TheVariants.{Local, Inherited}
+use Rattle.ripngd_engine.specs.declared.peer.Socket.{Socket}
+use Rattle.ripngd_udp.specs.Peers.{OnLink}
 
 -- how many datagrams may go at once on an interface with so many peers: its share of the 64 that the socket of a peer may get, and at least one
 abbrev pub share_among : ℕ → ℕ
 share_among peers = max 1 (64 / max 1 peers)
+
+-- the rate of an interface with so many peers: its share, and as much again 16 milliseconds later
+abbrev pub rate_among : ℕ → Rate
+rate_among peers = record { share = share_among peers; pause_ms = 16 }
+
+-- the rate of a real link: one datagram, and another one 3 milliseconds later
+abbrev pub real_rate : Rate
+real_rate = record { share = 1; pause_ms = 3 }
+
+-- the rate of sockets beside so many peers
+abbrev pub rate_by : Socket → ℕ → Rate
+rate_by (Local port group_port) peers = rate_among peers
+rate_by (Inherited alone group far) peers = real_rate
+
+-- the rate of an interface on its link
+abbrev pub rate_of : OnLink → Rate
+rate_of i = rate_by i.place.socket (length i.peers)
 
 -- one datagram may go at a moment: the pause is over, or some are left of the share before it
 abbrev pub may_go : ℕ → ℕ → ℕ → Bool

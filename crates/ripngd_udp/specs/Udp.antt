@@ -1,7 +1,8 @@
--- A link of sockets: why it could not be bound, and as what a datagram of a peer arrives.
+-- A link of sockets: why it could not be bound, and as what a datagram of a sender arrives.
 use Rattle.std.specs.Prelude.{ℕ, ◌≡◌, ◌≤◌, List, [], Option, length, map, Contains, ⊤}
 use Rattle.ripngd_engine.specs.declared.peer.Peer.{Peer}
 use Rattle.ripngd_engine.specs.declared.peer.Place.{Place}
+use Rattle.ripngd_engine.specs.declared.peer.Sender.{Sender}
 use Rattle.ripngd_engine.specs.Link.{Call}
 use Rattle.ripngd_engine.specs.declared.link.Received.{Received}
 use Rattle.ripngd_udp.specs.Peers.{OnLink, links_at}
@@ -46,19 +47,19 @@ GoesOn old new =
     (old.failed_sends ≤ new.failed_sends) × (old.lost_arrivals ≤ new.lost_arrivals) × (old.strangers ≤ new.strangers)
     × (new ≡ record old { failed_sends = new.failed_sends; lost_arrivals = new.lost_arrivals; strangers = new.strangers })
 
--- a port that is named is the local port of one of these places
-abbrev pub NamesPortOf : List Place → UdpError → Type 0
-NamesPortOf places (Bind port cause) = Contains (map (λ p. p.local_port) places) port
-NamesPortOf places OutOfMemory = ⊤
+-- a socket that is named is that of one of these places
+abbrev pub NamesSocketOf : List Place → UdpError → Type 0
+NamesSocketOf places (Bind socket cause) = Contains (map (λ p. p.socket) places) socket
+NamesSocketOf places OutOfMemory = ⊤
 
--- a datagram of `len` bytes, as one of the peer
-abbrev pub as_of : Peer → ℕ → ℕ → Received
-as_of peer iface len =
+-- a datagram of `len` bytes, as one of the sender
+abbrev pub as_of : Sender → ℕ → ℕ → Received
+as_of sender iface len =
     record {
       iface = iface;
-      source = peer.addr;
-      source_port = peer.port;
-      hop_limit = peer.hop_limit;
-      to_group = peer.to_group;
+      source = sender.addr;
+      source_port = sender.port;
+      hop_limit = sender.hop_limit;
+      to_group = sender.to_group;
       len = len;
     }

@@ -1,17 +1,18 @@
-//! The socket of an interface, with its queues of received datagrams and of those that wait to be sent.
+//! The sockets of an interface, with its queues of received datagrams and of those that wait to be sent.
 
-ghost use Rattle.std.specs.Prelude.{◌≡◌, IfErr, IfOk, length, vec_len};
-ghost use Rattle.ripngd_udp.specs.Common.{Grows, NamesPortOf};
+ghost use Rattle.std.specs.Prelude.{◌≡◌, ◌≤◌, IfErr, IfOk, length, vec_len};
+ghost use Rattle.ripngd_udp.specs.Common.{Grows, NamesSocketOf};
 
 use crate::peer_table::PeerTable;
 use crate::receive_queue::ReceiveQueue;
 use crate::send_queue::SendQueue;
 use crate::udp::{BindCause, UdpError};
 use crate::waiting::Polled;
-use ripngd_engine::{LinkFault, Place};
+use ripngd_engine::{LinkFault, Place, Socket};
+use router_core::MAX_HOP_LIMIT;
 use std::alloc::Global;
 use std::io::{self, ErrorKind};
-use std::net::{Net, UdpSocket};
+use std::net::{Net, SocketAddr, UdpSocket};
 
 /// How many datagrams are read from one socket before the next socket: more than its buffer holds.
 const TAKEN_AT_ONCE: u32 = 512;
@@ -27,20 +28,62 @@ pub(crate) struct Counts {
     pub(crate) strangers: u64,
 }
 
-/// The socket of an interface.
+/// A socket that gives what came to the group of a real link, all of it with this hop limit.
+#[derive(Drop)]
+struct GroupSocket {
+    socket: UdpSocket,
+    hop_limit: u8,
+}
+
+/// The sockets of an interface.
 #[derive(Drop)]
 pub(crate) struct Endpoint {
+    /// What it sends by; what came to it alone, or on a link of loopback all that came.
     pub(crate) socket: UdpSocket,
+    groups: Vec<GroupSocket>,
     pub(crate) send_queue: SendQueue,
     pub(crate) receive_queue: ReceiveQueue,
     /// Whether there may be something to read: the system said so, and no read has found it empty since.
     pub(crate) ready: bool,
 }
 
-/// A socket at the local port of each place, in order: one for each interface.
+/// What a socket of a group gives whose datagrams have another hop limit than 255: which one is not known.
+const FAR: u8 = 0;
+
+/// The sockets at a place, each watched for that interface.
+fn endpoint_at<N: Net>(
+    net: &N,
+    alloc: Global,
+    waiting: &Polled,
+    iface: usize,
+    socket: Socket,
+) -> io::Result<Endpoint> {
+    let mut groups = Vec::new(alloc);
+    let socket = match socket {
+        Socket::Local { port, .. } => waiting.open(net, iface, port)?,
+        Socket::Inherited { alone, group, far } => {
+            for (number, hop_limit) in [(Some(group), MAX_HOP_LIMIT), (far, FAR)] {
+                if let Some(number) = number {
+                    let socket = waiting.take_over(iface, number, true)?;
+                    groups.push(GroupSocket { socket, hop_limit })?;
+                }
+            }
+            waiting.take_over(iface, alone, false)?
+        }
+    };
+    Ok(Endpoint {
+        socket,
+        groups,
+        send_queue: SendQueue::new(alloc),
+        receive_queue: ReceiveQueue::new(alloc),
+        ready: false,
+    })
+}
+
+/// The sockets at each place, in order.
 ///
 /// # Errors
-/// `Bind` with the first port that cannot be bound, and why; or out of memory.
+/// `Bind` with the first place whose sockets cannot be had, and why; or out of memory.
 pub(crate) fn endpoints_at<N: Net>(
     net: &N,
     alloc: Global,
@@ -48,23 +91,17 @@ pub(crate) fn endpoints_at<N: Net>(
     places: &[Place],
 ) -> Result<Vec<Endpoint>, UdpError>
     ensures count { IfOk result (λ endpoints. vec_len endpoints ≡ length places.now) }
-    ensures refused { IfErr result (NamesPortOf places.now) }
+    ensures refused { IfErr result (NamesSocketOf places.now) }
 {
     let mut endpoints = Vec::new(alloc);
     for place in places {
-        let port = place.local_port;
-        let socket = match waiting.open(net, endpoints.len(), port) {
-            Ok(socket) => socket,
+        let socket = place.socket;
+        let endpoint = match endpoint_at(net, alloc, waiting, endpoints.len(), socket) {
+            Ok(endpoint) => endpoint,
             Err(error) => {
                 let cause = BindCause::of(&error);
-                return Err(UdpError::Bind { port, cause });
+                return Err(UdpError::Bind { socket, cause });
             }
-        };
-        let endpoint = Endpoint {
-            socket,
-            send_queue: SendQueue::new(alloc),
-            receive_queue: ReceiveQueue::new(alloc),
-            ready: false,
         };
         endpoints.push(endpoint).map_err(|_| UdpError::OutOfMemory)?;
     }
@@ -77,50 +114,91 @@ impl Endpoint {
         self.receive_queue.is_empty() && !self.ready
     }
 
-    /// A read gave no datagram: returns that there is no other now.
+    /// A read gave no datagram: returns that there is no other now. The socket is empty, or is to be read again soon.
     ///
     /// # Errors
     /// The socket failed.
     fn leave(&mut self, error: &io::Error) -> Result<bool, LinkFault> {
         match error.kind() {
-            ErrorKind::WouldBlock | ErrorKind::TimedOut => {
-                self.ready = false;
+            ErrorKind::WouldBlock | ErrorKind::TimedOut => Ok(false),
+            ErrorKind::Interrupted => {
+                self.ready = true;
                 Ok(false)
             }
-            ErrorKind::Interrupted => Ok(false),
             _ => Err(LinkFault),
         }
     }
 
-    /// Reads one datagram into the queue, by way of a buffer, as one of the peer at its source port. Returns whether to try for
-    /// another. One that the queue cannot keep is lost, one from a port of no peer is dropped; both are counted.
+    /// Reads one datagram into a buffer, from the socket of a group or, without its number, from the other one. It came with this hop
+    /// limit, if it came to a group.
+    fn read(
+        &self,
+        group: Option<usize>,
+        buffer: &mut [u8],
+    ) -> (Option<u8>, io::Result<(usize, SocketAddr)>)
+        ensures { IfOk result.1 (λ r. r.0 ≤ length buffer.new) }
+    {
+        match group.and_then(|number| self.groups.get(number)) {
+            Some(group) => (Some(group.hop_limit), group.socket.recv_from(buffer)),
+            None => (None, self.socket.recv_from(buffer)),
+        }
+    }
+
+    /// Reads one datagram into the queue, by way of a buffer, from the socket of a group or, without its number, from the other one.
+    /// Returns whether to try for another. One that the queue cannot keep is lost, one that nobody can have sent is dropped; both are
+    /// counted.
     ///
     /// # Errors
     /// The socket could not be read.
     fn take_one(
         &mut self,
+        group: Option<usize>,
         peer_table: &PeerTable,
         buffer: &mut [u8],
         counts: &mut Counts,
     ) -> Result<bool, LinkFault>
         ensures { Grows counts.old counts.new }
     {
-        let (len, from) = match self.socket.recv_from(buffer) {
+        let (hop_limit, read) = self.read(group, buffer);
+        let (len, from) = match read {
             Ok(read) => read,
             Err(error) => return self.leave(&error),
         };
-        let Some(peer) = peer_table.peer_at(from) else {
+        let Some(sender) = peer_table.sender_at(from, hop_limit) else {
             counts.strangers = counts.strangers.saturating_add(1);
             return Ok(true);
         };
-        let kept = self.receive_queue.keep(peer, &buffer[..len]);
+        let kept = self.receive_queue.keep(sender, &buffer[..len]);
         if !kept {
+            self.ready = true;
             counts.lost_arrivals = counts.lost_arrivals.saturating_add(1);
         }
         Ok(kept)
     }
 
-    /// Reads what is there, if the socket is ready, until the queue is full and one datagram was lost.
+    /// Reads what is there at one socket, but not without end.
+    ///
+    /// # Errors
+    /// The socket could not be read.
+    fn take_some(
+        &mut self,
+        group: Option<usize>,
+        peer_table: &PeerTable,
+        buffer: &mut [u8],
+        counts: &mut Counts,
+    ) -> Result<(), LinkFault>
+        ensures { Grows counts.old counts.new }
+    {
+        for _ in 0..TAKEN_AT_ONCE {
+            if !self.take_one(group, peer_table, buffer, counts)? {
+                return Ok(());
+            }
+        }
+        self.ready = true;
+        Ok(())
+    }
+
+    /// Reads what is there, if a socket is ready, until the queue is full and one datagram was lost.
     ///
     /// # Errors
     /// The socket could not be read.
@@ -132,10 +210,13 @@ impl Endpoint {
     ) -> Result<(), LinkFault>
         ensures { Grows counts.old counts.new }
     {
-        for _ in 0..TAKEN_AT_ONCE {
-            if !self.ready || !self.take_one(peer_table, buffer, counts)? {
-                return Ok(());
-            }
+        if !self.ready {
+            return Ok(());
+        }
+        self.ready = false;
+        self.take_some(None, peer_table, buffer, counts)?;
+        for number in 0..self.groups.len() {
+            self.take_some(Some(number), peer_table, buffer, counts)?;
         }
         Ok(())
     }

@@ -1,8 +1,17 @@
-//! The link and the clock of `ripngd run`: UDP sockets of 127.0.0.1 in place of real links, and the system's clock.
+//! The link and the clock of `ripngd run`: UDP sockets, of real links or of 127.0.0.1 in their place, and the system's clock.
+//!
+//! What a datagram passes here, and what may stop it:
+//!
+//! ```text
+//! socket --take_all--> queue of its interface (16,384, 32 MiB) --take_next, interfaces in turn--> one `recv`
+//! `send` --pace open?--> socket
+//!        \--closed-----> send queue (4,096) --`recv` or `finish`, once the pause is over--> socket
+//! ```
 #![tactic(auto)]
 
 mod clock;
 mod endpoint;
+mod inherited;
 mod moments;
 mod pace;
 mod peer_refused;

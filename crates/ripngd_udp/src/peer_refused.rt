@@ -22,6 +22,8 @@ pub enum PeerRefused {
     NoSuchPeer,
     /// There was not enough memory.
     OutOfMemory,
+    /// The link is real: its neighbors are those that send there.
+    RealLink,
 }
 
 impl PeerRefused {
@@ -38,6 +40,7 @@ impl PeerRefused {
             PeerRefused::PeersFull => "65 PeersFull",
             PeerRefused::NoSuchPeer => "66 NoSuchPeer",
             PeerRefused::OutOfMemory => "67 OutOfMemory",
+            PeerRefused::RealLink => "68 RealLink",
         }
     }
 }

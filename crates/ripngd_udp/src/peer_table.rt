@@ -1,13 +1,14 @@
-//! The peers on the link of an interface, and how they change.
+//! Who is on the link of an interface: on a real link whoever sends, on a link of loopback its peers, and how these change.
 
-ghost use Rattle.std.specs.Prelude.{◌≡◌, ◌≤◌, IfErr, IfOk, OnErr, OnOk, Some, length, map, vec_len};
-ghost use Rattle.ripngd_udp.specs.Common.{result_err, first_reason, adding_fault, has_peer_address, is_group_port, links_at, on_link, removing_reasons_at, with_peer, without_peer, share_among, OnLink};
+ghost use Rattle.std.specs.Prelude.{◌≡◌, ◌≤◌, IfErr, IfOk, OnErr, OnOk, Some, length, map, true, vec_len};
+ghost use Rattle.ripngd_udp.specs.Common.{result_err, first_reason, adding_fault, has_peer_address, is_group_port, links_at, on_link, removing_reasons_at, with_peer, without_peer, is_real, rate_of, real_sender, OnLink};
 
-use crate::pace::share_among;
+use crate::pace::Rate;
 use crate::peer_refused::PeerRefused;
+use crate::sending::{local, real};
 use prefix6::Addr6;
-use ripngd_engine::{Peer, Place, has_clash};
-use router_core::Destination;
+use ripngd_engine::{Peer, Place, Sender, Socket, has_clash};
+use router_core::{Destination, MAX_HOP_LIMIT, RIPNG_PORT};
 use std::alloc::{AllocError, Global};
 use std::marker::Model;
 use std::net::{IpAddr, SocketAddr};
@@ -28,12 +29,30 @@ impl Model for PeerTable {
     ghost view = { λ n. on_link n.place n.peers.items };
 }
 
+/// FF02::9, the group of all RIPng routers (RFC 2080, section 2.5).
+pub(crate) const GROUP: u128 = (0xff02 << 112) | 9;
+
 /// The port of an address of 127.0.0.1, or `None` for another address.
 fn local_port_of(from: SocketAddr) -> Option<u16> {
     match from.ip() {
         IpAddr::V4(ip) if ip.octets() == [127, 0, 0, 1] => Some(from.port()),
         _ => None,
     }
+}
+
+/// Who sent a datagram on a real link. The hop limit of one to this router alone is not known, and no rule asks for it.
+fn real_sender(from: SocketAddr, hop_limit: Option<u8>) -> Option<Sender>
+    ensures { result ≡ real_sender from hop_limit }
+{
+    let SocketAddr::V6(from) = from else {
+        return None;
+    };
+    Some(Sender {
+        addr: Addr6::from_octets(from.ip().octets()),
+        port: from.port(),
+        hop_limit: hop_limit.unwrap_or(MAX_HOP_LIMIT),
+        to_group: hop_limit.is_some(),
+    })
 }
 
 impl PeerTable {
@@ -48,37 +67,67 @@ impl PeerTable {
         self.peers.as_slice()
     }
 
-    /// How many datagrams may go out to them without a pause.
-    pub(crate) fn share(&self) -> usize
-        ensures share { result ≡ share_among (length self.now.peers) }
-        ensures some { 1 ≤ result }
-        ensures few { result ≤ 64 }
+    /// Whether the link is real.
+    pub(crate) fn is_real(&self) -> bool
+        ensures { result ≡ is_real self.now.place.socket }
     {
-        share_among(self.peers.len())
+        self.place.socket.is_real()
+    }
+
+    /// How many datagrams may go out without a pause, and how long it is.
+    pub(crate) fn rate(&self) -> Rate
+        ensures rate { result ≡ rate_of self.now }
+        ensures some { 1 ≤ result.share }
+        ensures few { result.share ≤ 64 }
+    {
+        match self.place.socket {
+            Socket::Local { .. } => Rate::among(self.peers.len()),
+            Socket::Inherited { .. } => Rate::real(),
+        }
     }
 
     /// Whether a peer has this address.
-    pub(crate) fn has_peer(&self, addr: Addr6) -> bool
+    fn has_peer(&self, addr: Addr6) -> bool
         ensures { result ≡ has_peer_address self.now.peers addr }
     {
         self.peers.iter().any(|peer| peer.addr == addr)
     }
 
-    /// The one port that gets all that is sent to a destination, if there is one.
-    pub(crate) fn shared_port(&self, to: &Destination) -> Option<u16> {
+    /// Whether something can be sent there: on a real link always, else to the group, or to an address that a peer has.
+    pub(crate) fn is_known(&self, to: &Destination) -> bool {
         match to {
-            Destination::Group => self.place.group_port,
-            Destination::Peer { .. } => None,
+            Destination::Group => true,
+            Destination::Peer { addr, .. } => self.is_real() || self.has_peer(*addr),
         }
     }
 
-    /// The first peer at the port that a datagram came from.
-    pub(crate) fn peer_at(&self, from: SocketAddr) -> Option<Peer> {
-        let port = local_port_of(from)?;
-        self.peers
-            .iter()
-            .find(|peer| peer.local_port == port)
-            .copied()
+    /// The one address that gets all that is sent to a destination, if there is one.
+    pub(crate) fn shared(&self, to: &Destination) -> Option<SocketAddr> {
+        match (self.place.socket, to) {
+            (Socket::Local { group_port, .. }, Destination::Group) => group_port.map(local),
+            (Socket::Local { .. }, Destination::Peer { .. }) => None,
+            (Socket::Inherited { .. }, Destination::Group) => {
+                Some(real(Addr6::from_bits(GROUP), RIPNG_PORT))
+            }
+            (Socket::Inherited { .. }, Destination::Peer { addr, port }) => Some(real(
+                *addr, *port,
+            )),
+        }
+    }
+
+    /// Who sent a datagram that came so: on a real link who did, to the group with a hop limit, or to this router where there is none;
+    /// else the first peer at the port that it came from.
+    pub(crate) fn sender_at(&self, from: SocketAddr, hop_limit: Option<u8>) -> Option<Sender>
+        ensures { is_real self.now.place.socket ≡ true → result ≡ real_sender from hop_limit }
+    {
+        match self.place.socket {
+            Socket::Local { .. } => {
+                let port = local_port_of(from)?;
+                let peer = self.peers.iter().find(|peer| peer.local_port == port)?;
+                Some(peer.sender())
+            }
+            Socket::Inherited { .. } => real_sender(from, hop_limit),
+        }
     }
 
     /// Adds a peer at the end.
@@ -133,7 +182,10 @@ pub(crate) fn peer_tables_at(
 fn is_group_port(links: &[PeerTable], port: u16) -> bool
     ensures { result ≡ is_group_port links.now port }
 {
-    links.iter().any(|link| link.place.group_port == Some(port))
+    links.iter().any(|link| match link.place.socket {
+        Socket::Local { group_port, .. } => group_port == Some(port),
+        Socket::Inherited { .. } => false,
+    })
 }
 
 /// The first reason not to add a peer to an interface.
@@ -143,7 +195,9 @@ pub(crate) fn check_peer(links: &[PeerTable], iface: usize, peer: &Peer) -> Resu
     let Some(link) = links.get(iface) else {
         return Err(PeerRefused::NoSuchInterface);
     };
-    if peer.local_port == 0 {
+    if link.is_real() {
+        Err(PeerRefused::RealLink)
+    } else if peer.local_port == 0 {
         Err(PeerRefused::BadPort)
     } else if is_group_port(links, peer.local_port) {
         Err(PeerRefused::PortTwice)

@@ -1,7 +1,7 @@
 //! The ports of a run: which were bound, and the past of the link over them since it was closed.
 
 ghost use Rattle.std.specs.Prelude.{◌≡◌, IfErr, IfOk, None, OnErr, OnOk, Some, length, map, vec_len, option_map};
-ghost use Rattle.ripngd_udp.specs.Common.{links_at, NamesPortOf, new_link, PortsState};
+ghost use Rattle.ripngd_udp.specs.Common.{links_at, NamesSocketOf, new_link, PortsState};
 
 use crate::udp::{Udp, UdpError};
 use ripngd_engine::{Entry, Peer, Place, Transcript};
@@ -53,7 +53,7 @@ impl Ports {
         ensures bound { IfOk result (λ link. link ≡ new_link places.now (map (λ v. v.items) peers.items)) }
         ensures ports { OnOk result (self.new
             ≡ record { on_links = Some (links_at places.now (map (λ v. v.items) peers.items)); calls = None }) }
-        ensures refused { IfErr result (NamesPortOf places.now) }
+        ensures refused { IfErr result (NamesSocketOf places.now) }
         ensures err { OnErr result (self.new ≡ self.old) }
     {
         let bound = Transcript::of(&Entry::Bound(places, peers.as_slice()));

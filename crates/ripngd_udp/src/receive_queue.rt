@@ -4,7 +4,7 @@
 ghost use Rattle.std.specs.Prelude.{◌≡◌, ◌≤◌, ◌↔◌, [], MatchOption, IfOk, IfSome, IsTrue, is_ok, length, min, take};
 ghost use Rattle.ripngd_udp.specs.Common.{Gives, HasRoom, Keeps, MayWait, bytes_of};
 
-use ripngd_engine::{Peer, Received};
+use ripngd_engine::{Received, Sender};
 use std::alloc::{AllocError, Global};
 use std::collections::VecDeque;
 
@@ -23,7 +23,7 @@ const SPARE_LEN: usize = 2_048;
 /// A datagram of a neighbor.
 #[derive(Drop)]
 pub(crate) struct Datagram {
-    pub(crate) peer: Peer,
+    pub(crate) sender: Sender,
     pub(crate) bytes: Vec<u8>,
 }
 
@@ -87,20 +87,20 @@ impl ReceiveQueue {
 
     /// Adds a datagram of a neighbor at the end, and returns whether there was room and memory for it. If not, only this datagram is
     /// lost.
-    pub(crate) fn keep(&mut self, peer: Peer, bytes: &[u8]) -> bool
-        ensures kept { Keeps self.old.waiting.items self.new.waiting.items peer bytes.now result }
+    pub(crate) fn keep(&mut self, sender: Sender, bytes: &[u8]) -> bool
+        ensures kept { Keeps self.old.waiting.items self.new.waiting.items sender bytes.now result }
         ensures room { MayWait self.new.waiting.items }
     {
-        self.has_room(bytes.len()) && self.push(peer, bytes).is_ok()
+        self.has_room(bytes.len()) && self.push(sender, bytes).is_ok()
     }
 
-    fn push(&mut self, peer: Peer, bytes: &[u8]) -> Result<(), AllocError>
+    fn push(&mut self, sender: Sender, bytes: &[u8]) -> Result<(), AllocError>
         requires { HasRoom self.old.waiting.items (length bytes.now) }
-        ensures { Keeps self.old.waiting.items self.new.waiting.items peer bytes.now (is_ok result) }
+        ensures { Keeps self.old.waiting.items self.new.waiting.items sender bytes.now (is_ok result) }
     {
         let len = bytes.len();
         let bytes = self.copy_of(bytes)?;
-        self.waiting.push_back(Datagram { peer, bytes })?;
+        self.waiting.push_back(Datagram { sender, bytes })?;
         self.held += len;
         Ok(())
     }
@@ -123,16 +123,16 @@ impl ReceiveQueue {
         ensures interface { IfSome result (λ r. r.iface ≡ iface) }
         ensures within { IfSome result (λ r. r.len ≤ length buffer.new) }
     {
-        let Datagram { peer, bytes } = self.waiting.pop_front()?;
+        let Datagram { sender, bytes } = self.waiting.pop_front()?;
         self.held -= bytes.len();
         let len = copy_into(buffer, bytes.as_slice());
         self.spare(bytes);
         Some(Received {
             iface,
-            source: peer.addr,
-            source_port: peer.port,
-            hop_limit: peer.hop_limit,
-            to_group: peer.to_group,
+            source: sender.addr,
+            source_port: sender.port,
+            hop_limit: sender.hop_limit,
+            to_group: sender.to_group,
             len,
         })
     }

@@ -1,11 +1,11 @@
 //! The queue of datagrams that wait to be sent on an interface. They go out in order, at the pace of its peers.
 
 ghost use Rattle.std.specs.Prelude.{◌≡◌, ◌<◌, ◌≤◌, ◌++◌, ◌∷◌, [], IfOk, IfSome, IsNone, OnErr, OnOk, drop, is_ok, length};
-ghost use Rattle.ripngd_udp.specs.Common.{goes_at_once, share_among, waiting_after};
+ghost use Rattle.ripngd_udp.specs.Common.{goes_at_once, rate_of, waiting_after};
 
 use crate::pace::Pace;
 use crate::peer_table::PeerTable;
-use crate::sending::{is_known, send};
+use crate::sending::send;
 use ripngd_engine::LinkFault;
 use router_core::{Listed, Outgoing};
 use std::alloc::{AllocError, Global};
@@ -82,9 +82,9 @@ impl SendQueue {
             self.old.waiting.items outgoing.now (is_ok result) }
         ensures room { length self.new.waiting.items ≤ 4096 }
     {
-        if self.waiting.is_empty() && self.pace.take(1, peer_table.share(), now) == 1 {
+        if self.waiting.is_empty() && self.pace.take(1, peer_table.rate(), now) == 1 {
             send(socket, peer_table, outgoing)
-        } else if is_known(peer_table, &outgoing.to) {
+        } else if peer_table.is_known(&outgoing.to) {
             self.keep(outgoing)
         } else {
             Err(LinkFault)
@@ -116,12 +116,12 @@ impl SendQueue {
     ) -> u64
         ensures all { IsNone moment → self.new.waiting.items ≡ [] }
         ensures due { IfSome moment (λ now. self.old.pace.opens ≤ now
-            → self.new.waiting.items ≡ drop (share_among (length peer_table.now.peers)) self.old.waiting.items) }
+            → self.new.waiting.items ≡ drop (rate_of peer_table.now).share self.old.waiting.items) }
         ensures paused { IfSome moment (λ now. now < self.old.pace.opens
             → self.new.waiting.items ≡ drop self.old.pace.left self.old.waiting.items) }
     {
         let count = match moment {
-            Some(now) => self.pace.take(self.waiting.len(), peer_table.share(), now),
+            Some(now) => self.pace.take(self.waiting.len(), peer_table.rate(), now),
             None => self.waiting.len(),
         };
         self.send_some(socket, peer_table, count)

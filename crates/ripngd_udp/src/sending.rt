@@ -1,10 +1,11 @@
-//! Sends one datagram to the ports of its destination. A failure at one port does not keep it from the next.
+//! Sends one datagram to all that its destination means. A failure at one port does not keep it from the next.
 
 use crate::peer_table::PeerTable;
+use prefix6::Addr6;
 use ripngd_engine::{LinkFault, Peer};
 use router_core::{Destination, Outgoing};
 use std::io::ErrorKind;
-use std::net::{IpAddr, Ipv4Addr, SocketAddr, UdpSocket};
+use std::net::{IpAddr, Ipv4Addr, Ipv6Addr, SocketAddr, UdpSocket};
 
 /// How often a send to a port is tried while signals interrupt it.
 const TRIES: u32 = 16;
@@ -14,10 +15,15 @@ pub(crate) fn local(port: u16) -> SocketAddr {
     SocketAddr::new(IpAddr::V4(Ipv4Addr::new(127, 0, 0, 1)), port)
 }
 
-/// Sends to a port, and returns whether the whole datagram went out. What a signal interrupts is tried again.
-fn send_to(socket: &UdpSocket, port: u16, bytes: &[u8]) -> bool {
+/// A port of an address on a real link. Its device is that of the socket.
+pub(crate) fn real(addr: Addr6, port: u16) -> SocketAddr {
+    SocketAddr::new(IpAddr::V6(Ipv6Addr::from_octets(addr.octets())), port)
+}
+
+/// Sends there, and returns whether the whole datagram went out. What a signal interrupts is tried again.
+fn send_to(socket: &UdpSocket, to: SocketAddr, bytes: &[u8]) -> bool {
     for _ in 0..TRIES {
-        match socket.send_to(bytes, local(port)) {
+        match socket.send_to(bytes, to) {
             Ok(count) => return count == bytes.len(),
             Err(error) if error.kind() == ErrorKind::Interrupted => {}
             Err(_) => return false,
@@ -34,15 +40,7 @@ fn is_meant(peer: &Peer, to: &Destination) -> bool {
     }
 }
 
-/// Whether the destination is known: the group always is, an address if a peer has it.
-pub(crate) fn is_known(peer_table: &PeerTable, to: &Destination) -> bool {
-    match to {
-        Destination::Group => true,
-        Destination::Peer { addr, .. } => peer_table.has_peer(*addr),
-    }
-}
-
-/// Sends to the group port, or in order to each peer that is meant.
+/// Sends to the address that all of it goes to, or in order to each peer that is meant.
 ///
 /// # Errors
 /// A send to one of them failed, or there is no peer at the destination.
@@ -52,14 +50,14 @@ pub(crate) fn send(
     outgoing: &Outgoing,
 ) -> Result<(), LinkFault> {
     let (to, bytes) = (&outgoing.to, outgoing.bytes.as_slice());
-    let shared_port = peer_table.shared_port(to);
-    let mut all_went = match shared_port {
-        Some(port) => send_to(socket, port, bytes),
-        None => is_known(peer_table, to),
+    let shared = peer_table.shared(to);
+    let mut all_went = match shared {
+        Some(addr) => send_to(socket, addr, bytes),
+        None => peer_table.is_known(to),
     };
     for peer in peer_table.peers() {
-        if shared_port.is_none() && is_meant(peer, to) {
-            all_went &= send_to(socket, peer.local_port, bytes);
+        if shared.is_none() && is_meant(peer, to) {
+            all_went &= send_to(socket, local(peer.local_port), bytes);
         }
     }
     if all_went { Ok(()) } else { Err(LinkFault) }

@@ -4,6 +4,7 @@ ghost use Rattle.std.specs.Prelude.{◌≡◌, ◌<◌, ◌≤◌, IfOk, IfSome,
 ghost use Rattle.ripngd_udp.specs.Common.{GoesOn, SendsLate};
 
 use crate::udp::Udp;
+use crate::waiting::SOCKETS;
 use ripngd_engine::{LinkFault, Received, TimeSource};
 use std::rt::Clock;
 use std::thread;
@@ -66,7 +67,7 @@ impl<R: Clock> Udp<'_, R> {
         ensures { self.new ≡ self.old }
     {
         self.waiting.wait(limit)?;
-        for index in 0..=self.endpoints.len() {
+        for index in 0..=SOCKETS.saturating_mul(self.endpoints.len()) {
             let Some(number) = self.waiting.ready_at(index) else {
                 return Ok(());
             };

@@ -1,8 +1,8 @@
-//! A link of UDP sockets on loopback, in place of the real links of a router: each interface has a socket at a port of 127.0.0.1,
-//! and so has each neighbor on its link.
+//! A link of UDP sockets: on a real link those that the process was started with; in place of one, a socket at a port of 127.0.0.1
+//! for each interface and for each neighbor on its link.
 
 ghost use Rattle.std.specs.Prelude.{◌≡◌, ◌↔◌, IfErr, IfOk, None, OnErr, OnOk, length, map, vec_len, ◌≤◌, ◌<◌, ◌++◌, ◌∷◌, [], IfSome, Some, is_ok};
-ghost use Rattle.ripngd_udp.specs.Common.{error_kind, result_err, ChangesLink, RefusesFor, adding_fault, removing_fault, with_peer, without_peer, NamesPortOf, SendsLate, new_link, LinkState, Handed, recv_call};
+ghost use Rattle.ripngd_udp.specs.Common.{error_kind, result_err, ChangesLink, RefusesFor, adding_fault, removing_fault, with_peer, without_peer, NamesSocketOf, SendsLate, new_link, LinkState, Handed, recv_call};
 
 use crate::clock::Uptime;
 use crate::endpoint::{Counts, Endpoint, endpoints_at};
@@ -10,7 +10,9 @@ use crate::peer_refused::PeerRefused;
 use crate::peer_table::{PeerTable, check_peer, peer_tables_at};
 use crate::waiting::Polled;
 use prefix6::Addr6;
-use ripngd_engine::{Entry, Link, LinkFault, Peer, Place, Received, TimeSource, Transcript};
+use ripngd_engine::{
+    Entry, Link, LinkFault, Peer, Place, Received, Socket, TimeSource, Transcript,
+};
 use router_core::Outgoing;
 use std::alloc::Global;
 use std::io::{self, ErrorKind};
@@ -29,7 +31,7 @@ const LONGEST_MS: u64 = 400;
 /// How often the last datagrams may wait: more than any need, in case the clock stands still.
 const LAST_WAITS: u32 = 4_096;
 
-/// Why a port could not be bound.
+/// Why a socket could not be had.
 #[derive(Clone, Copy, Debug, PartialEq, Eq)]
 pub enum BindCause {
     /// Not permitted, as a port below 1024 is without privilege.
@@ -57,9 +59,9 @@ impl BindCause {
 /// Why a link could not be bound.
 #[derive(Clone, Copy, Debug, PartialEq, Eq, Error)]
 pub enum UdpError {
-    /// 1: this port of 127.0.0.1 cannot be bound.
-    #[error("1 Bind {port}")]
-    Bind { port: u16, cause: BindCause },
+    /// 1: this socket cannot be had.
+    #[error("1 Bind")]
+    Bind { socket: Socket, cause: BindCause },
     /// 2: there was not enough memory.
     #[error("2 OutOfMemory")]
     OutOfMemory,
@@ -124,7 +126,7 @@ impl<'a, R: Clock> Udp<'a, R> {
         R: Net,
         requires { length places.now ≡ vec_len peers }
         ensures bound { IfOk result (λ link. link ≡ new_link places.now (map (λ v. v.items) peers.items)) }
-        ensures refused { IfErr result (NamesPortOf places.now) }
+        ensures refused { IfErr result (NamesSocketOf places.now) }
     {
         let waiting = Polled::new(rt, alloc, places)?;
         Ok(Udp {

@@ -1,8 +1,9 @@
 //! The wait for datagrams at all sockets of a link at once (`epoll`), and for what else is watched.
 
 ghost use Rattle.std.specs.Prelude.{◌≤◌, IfErr};
-ghost use Rattle.ripngd_udp.specs.Common.{NamesPortOf};
+ghost use Rattle.ripngd_udp.specs.Common.{NamesSocketOf};
 
+use crate::inherited::inherited;
 use crate::sending::local;
 use crate::udp::{BindCause, UdpError};
 use mio::unix::SourceFd;
@@ -14,6 +15,9 @@ use std::net::{Net, UdpSocket};
 use std::os::fd::{AsRawFd, RawFd};
 use std::time::Duration;
 
+/// How many sockets an interface has at most.
+pub(crate) const SOCKETS: usize = 3;
+
 /// The system's list of sockets that are ready. It reports a socket as ready once, and again only after a read has found it empty.
 #[derive(Drop)]
 pub(crate) struct Polled {
@@ -24,15 +28,18 @@ pub(crate) struct Polled {
 impl Polled {
     /// An empty list for the sockets of these places. Where the system cannot make one, the first of them cannot be bound.
     pub(crate) fn new<N: Net>(net: &N, alloc: Global, places: &[Place]) -> Result<Polled, UdpError>
-        ensures { IfErr result (NamesPortOf places.now) }
+        ensures { IfErr result (NamesSocketOf places.now) }
     {
-        let Ok(events) = Events::with_capacity(alloc, places.len().saturating_add(1)) else {
+        let Ok(events) = Events::with_capacity(
+            alloc,
+            places.len().saturating_mul(SOCKETS).saturating_add(1),
+        ) else {
             return Err(UdpError::OutOfMemory);
         };
         match (Poll::new(net), places.first()) {
             (Ok(poll), _) => Ok(Polled { poll, events }),
             (Err(_), Some(place)) => Err(UdpError::Bind {
-                port: place.local_port,
+                socket: place.socket,
                 cause: BindCause::Other,
             }),
             (Err(_), None) => Err(UdpError::OutOfMemory),
@@ -43,6 +50,18 @@ impl Polled {
     pub(crate) fn open<N: Net>(&self, net: &N, iface: usize, port: u16) -> io::Result<UdpSocket> {
         let socket = UdpSocket::bind(net, local(port))?;
         socket.set_nonblocking(true)?;
+        self.register(socket.as_raw_fd(), iface)?;
+        Ok(socket)
+    }
+
+    /// A socket that the process was started with, by the number of its descriptor; else as `open`.
+    pub(crate) fn take_over(
+        &self,
+        iface: usize,
+        number: u16,
+        of_group: bool,
+    ) -> io::Result<UdpSocket> {
+        let socket = inherited(number, of_group)?;
         self.register(socket.as_raw_fd(), iface)?;
         Ok(socket)
     }

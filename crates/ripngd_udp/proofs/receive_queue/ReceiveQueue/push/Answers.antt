@@ -4,8 +4,8 @@ use Rattle.ripngd_udp.proofs.receive_queue.ReceiveQueue.push.Goals as goal
 pub returns : goal.returns
 returns c =
     record {
-      last = record { peer = c.args.peer; bytes = c.in_ok-bytes.bytes };
+      last = record { sender = c.args.sender; bytes = c.in_ok-bytes.bytes };
       in_order = search rules;
-      peer_is = refl;
+      sender_is = refl;
       bytes_are = search rules;
     }

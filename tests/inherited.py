@@ -1,0 +1,353 @@
+#!/usr/bin/env python3
+"""A router with the sockets of real links, which it inherits: what each of them gives is judged by the rules of RFC 2080, which sockets
+are refused, and how it sends there.
+
+    tests/inherited.py PROGRAM [NAME..]
+
+Each case has a name space of its own with the router, and another one with its neighbors, on links of virtual devices. No privilege is
+needed where a user may have name spaces (`unshare -rn`). The sockets are those of the companion (links/sockets.py). A line for each
+case that fails, and last how many passed."""
+
+import contextlib
+import ctypes
+import os
+import re
+import shutil
+import socket
+import struct
+import subprocess
+import sys
+import time
+
+sys.dont_write_bytecode = True
+sys.path.insert(0, os.path.join(os.path.dirname(os.path.abspath(__file__)), "../links"))
+from daemons import Case, prefix, table, until
+from datagrams import REQUEST, entry, response
+from sockets import GROUP, PORT, Sockets
+from suite import Failed, named, play, same
+
+LIBC = ctypes.CDLL(None, use_errno=True)
+NEW_NETWORK = 0x40000000
+HOP_LIMITS = socket.IPV6_MULTICAST_HOPS, socket.IPV6_UNICAST_HOPS
+LEARNED = "2001:db8:1::/48"
+NEWS = response(entry(LEARNED, 1))
+TEACHER = ("fe80::5", PORT)
+GATE, HOST = "2001:db8:5::1", "2001:db8:5::5"
+CASES = {}
+
+
+def listed(function):
+    CASES[function.__name__] = function
+    return function
+
+
+def ip(*words):
+    subprocess.run(["ip", *map(str, words)], check=True)
+
+
+class There:
+    """The name space of the neighbors. What is done within it is done there."""
+
+    def __init__(self):
+        self.here = os.open("/proc/thread-self/ns/net", os.O_RDONLY)
+        if LIBC.unshare(NEW_NETWORK):
+            raise OSError(ctypes.get_errno(), "unshare")
+        self.holder = subprocess.Popen(["sleep", "1000"])
+        self.there = os.open("/proc/thread-self/ns/net", os.O_RDONLY)
+        LIBC.setns(self.here, NEW_NETWORK)
+
+    def __enter__(self):
+        LIBC.setns(self.there, NEW_NETWORK)
+
+    def __exit__(self, *_):
+        LIBC.setns(self.here, NEW_NETWORK)
+
+    def close(self):
+        self.holder.kill()
+        self.holder.wait()
+
+
+class Cable:
+    """A link: the router's device at fe80::1, with its sockets, and that of its neighbors, which have fe80::5 and more."""
+
+    def __init__(self, there, number, more=()):
+        self.there, self.device, self.other = there, f"here{number}", f"there{number}"
+        ip("link", "add", self.device, "type", "veth", "peer", "name", self.other, "netns", there.holder.pid)
+        self.bring_up(self.device, "fe80::1", GATE)
+        with there:
+            self.bring_up(self.other, "fe80::5", HOST, *more)
+            self.index = socket.if_nametoindex(self.other)
+        self.sockets = Sockets(self.device, "all")
+        until("a carrier", lambda: self.is_up())
+        self.sockets.follow(socket.if_nametoindex(self.device))
+
+    def bring_up(self, device, *addresses):
+        ip("link", "set", device, "addrgenmode", "none", "up")
+        for address in addresses:
+            ip("address", "add", f"{address}/64", "dev", device, "nodad")
+
+    def is_up(self):
+        words = ["ip", "-o", "link", "show", self.device]
+        return "LOWER_UP" in subprocess.run(words, capture_output=True, text=True, check=True).stdout
+
+    def table(self, **keys):
+        """What configures it."""
+        return table("interface", address="fe80::1", cost=1, **self.sockets.keys() | keys)
+
+    def descriptors(self):
+        return list(self.sockets.keys().values())
+
+    def socket(self, source="fe80::5", port=PORT):
+        """A socket of a neighbor."""
+        with self.there:
+            opened = socket.socket(socket.AF_INET6, socket.SOCK_DGRAM)
+        opened.setsockopt(socket.SOL_SOCKET, socket.SO_REUSEADDR, 1)
+        opened.setsockopt(socket.IPPROTO_IPV6, socket.IPV6_MULTICAST_LOOP, 0)
+        opened.setsockopt(socket.IPPROTO_IPV6, socket.IPV6_MULTICAST_IF, self.index)
+        opened.bind((source, port, 0, self.index if source.startswith("f") else 0))
+        opened.settimeout(60)
+        return opened
+
+    def group(self):
+        """A socket of a neighbor that hears the group."""
+        opened = self.socket(str(GROUP))
+        opened.setsockopt(socket.SOL_SOCKET, socket.SO_RCVBUF, 1 << 20)
+        opened.setsockopt(socket.IPPROTO_IPV6, socket.IPV6_JOIN_GROUP, GROUP.packed + struct.pack("@I", self.index))
+        return opened
+
+    def send(self, bytes, source="fe80::5", port=PORT, hop_limit=255, to=str(GROUP)):
+        """A datagram of a neighbor; the answer to it, if one is waited for."""
+        with self.socket(source, port) as opened:
+            for option in HOP_LIMITS:
+                opened.setsockopt(socket.IPPROTO_IPV6, option, hop_limit)
+            opened.sendto(bytes, (to, PORT, 0, self.index if to.startswith("f") else 0))
+            if bytes == REQUEST:
+                return opened.recvfrom(65_536)[1][:2]
+
+
+@contextlib.contextmanager
+def cables(case, count=1, more=()):
+    """So many links, whose sockets the routers of the case inherit."""
+    there = There()
+    try:
+        ip("link", "set", "lo", "up")
+        found = [Cable(there, number, more) for number in range(count)]
+        case.descriptors = [number for cable in found for number in cable.descriptors()]
+        yield found
+    finally:
+        there.close()
+
+
+def begun(case, text, name="router"):
+    return case.listening(name, text, "-d", "-R", f"{name}.log")
+
+
+def said(router):
+    """What was said of datagrams, without their moments."""
+    return [line for line in re.sub(r"(?m)^\d+ ", "", router.said()).splitlines() if line.startswith("iface")]
+
+
+def routes(router):
+    return [line.split()[0] for line in router.ctl("routes").out.splitlines()]
+
+
+# Of a Response: whose it is, by which rule it is refused, and whether it is sent to the group.
+JUDGED = [
+    (dict(port=4000), "refused 7 NotRipngPort"),
+    (dict(source=HOST), "refused 8 NotLinkLocal"),
+    (dict(source=HOST, to=GATE), "refused 8 NotLinkLocal"),
+    (dict(source="fe80::1"), "refused 9 OwnAddress"),
+    (dict(hop_limit=254), "refused 10 HopLimit"),
+    (dict(hop_limit=1), "refused 10 HopLimit"),
+]
+
+
+@listed
+def each_rule_judges_what_the_system_says_of_a_datagram(case):
+    with cables(case, more=["fe80::1"]) as [cable]:
+        router = begun(case, cable.table())
+        wanted = []
+        for how, why in JUDGED:
+            cable.send(NEWS, **how)
+            wanted.append(f"iface 0 from {how.get('source', 'fe80::5')} port {how.get('port', PORT)} {why}")
+            until(wanted[-1], lambda: len(said(router)) == len(wanted))
+        same("what was refused", said(router), wanted)
+        same("the routes", routes(router), [])
+        cable.send(NEWS)
+        router.logs(f"add {LEARNED} metric 2 via fe80::5 iface 0")
+
+
+@listed
+def to_the_router_alone_any_hop_limit_will_do(case):
+    with cables(case) as [cable]:
+        router = begun(case, cable.table())
+        cable.send(NEWS, hop_limit=64, to="fe80::1")
+        router.logs(f"add {LEARNED} metric 2 via fe80::5 iface 0")
+        same("what was refused", said(router), [])
+
+
+@listed
+def whoever_asks_is_answered_from_the_address_that_was_asked(case):
+    with cables(case) as [cable]:
+        begun(case, cable.table() + prefix("2001:db8::/32"))
+        same("who answered a neighbor", cable.send(REQUEST, to="fe80::1"), ("fe80::1", PORT))
+        same("who answered a host", cable.send(REQUEST, source=HOST, port=4000, hop_limit=64, to=GATE), (GATE, PORT))
+
+
+@listed
+def without_a_far_socket_what_has_another_hop_limit_is_not_seen(case):
+    with cables(case) as [cable]:
+        keys = cable.sockets.keys()
+        del keys["far_descriptor"]
+        router = begun(case, table("interface", address="fe80::1", cost=1, **keys))
+        cable.send(NEWS, hop_limit=254)
+        cable.send(NEWS, port=4000)
+        until("one datagram", lambda: len(said(router)) == 1)
+        same("what was refused", said(router), ["iface 0 from fe80::5 port 4000 refused 7 NotRipngPort"])
+
+
+@listed
+def a_neighbor_has_one_address_on_each_of_many_links(case):
+    """Which is also the router's own on each of its links but one."""
+    with cables(case, 2, more=["fe80::2"]) as [one, other]:
+        text = one.table(zone=1) + table("interface", address="fe80::2", cost=1, zone=2, **other.sockets.keys())
+        router = begun(case, text)
+        one.send(NEWS, source="fe80::2")
+        router.logs(f"add {LEARNED} metric 2 via fe80::2 iface 0")
+        other.send(NEWS, source="fe80::2")
+        until("one refused", lambda: said(router) == ["iface 1 from fe80::2 port 521 refused 9 OwnAddress"])
+
+
+@listed
+def a_neighbor_is_counted_under_its_own_address(case):
+    with cables(case, more=["fe80::6"]) as [cable]:
+        router = begun(case, cable.table())
+        cable.send(NEWS)
+        cable.send(NEWS, source="fe80::6", hop_limit=9)
+        lines = lambda: re.sub(r" last \d+", "", router.ctl("neighbors").out)
+        until("both", lambda: lines() == "iface 0 from fe80::5 arrivals 1 responses 1 entries 1\n"
+                                         "iface 0 from fe80::6 arrivals 1 responses 0 entries 0\nrefused 10 HopLimit 1\n")
+
+
+@listed
+def exchanged_sockets_of_the_group_refuse_every_neighbor(case):
+    with cables(case) as [cable]:
+        keys = cable.sockets.keys()
+        keys["group_descriptor"], keys["far_descriptor"] = keys["far_descriptor"], keys["group_descriptor"]
+        router = begun(case, table("interface", address="fe80::1", cost=1, **keys))
+        cable.send(NEWS)
+        until("a refusal", lambda: said(router) == ["iface 0 from fe80::5 port 521 refused 10 HopLimit"])
+
+
+def fails(case, text, *words):
+    """A run that has no sockets, and says so."""
+    case.file("failing.toml", text)
+    done = case.run("run", "--turns", "1", *words, "failing.toml")
+    number = re.search(r"(?m)^descriptor = (\d+)$", text)[1]
+    same("how it ended", (done.status, done.out, done.err),
+         (3, "", f"ripngd: no sockets of port {PORT} at descriptor {number} and those with it\n"))
+
+
+@listed
+def numbers_that_are_no_such_sockets_are_refused_by_name(case):
+    with cables(case) as [cable], socket.socket(socket.AF_INET6, socket.SOCK_DGRAM) as unbound, socket.socket(socket.AF_UNIX) as local:
+        alone, group, far = cable.descriptors()
+        case.descriptors += [unbound.fileno(), local.fileno()]
+        for wrong in (dict(descriptor=900), dict(group_descriptor=900), dict(far_descriptor=900), dict(far_descriptor=65_535),
+                      dict(descriptor=group, group_descriptor=alone), dict(descriptor=unbound.fileno()),
+                      dict(far_descriptor=unbound.fileno()), dict(group_descriptor=local.fileno())):
+            fails(case, cable.table(**wrong))
+        begun(case, cable.table())
+
+
+@listed
+def a_descriptor_that_is_the_log_is_refused_and_the_log_stays_open(case):
+    """It is the first that the program opens. What it had is not lost."""
+    with cables(case) as [cable]:
+        case.file("log", "add ::/0 metric 1 direct\n")
+        log = os.open(os.path.join(case.folder, "log"), os.O_RDWR)
+        case.descriptors.append(log)
+        for wrong in (dict(descriptor=log), dict(group_descriptor=log), dict(descriptor=3)):
+            fails(case, cable.table(**wrong), "--append", "-R", "log")
+        same("the log", case.read("log"), "add ::/0 metric 1 direct\n")
+
+
+@listed
+def sockets_outlive_a_router_that_has_them(case):
+    """They are the helper's: the next router inherits the same."""
+    with cables(case) as [cable]:
+        for name in ("first", "second"):
+            router = begun(case, cable.table(), name)
+            cable.send(NEWS)
+            router.logs(f"add {LEARNED} metric 2 via fe80::5 iface 0")
+            router.ctl("stop")
+            same("how it ended", router.finish(), 0)
+
+
+def owned(count):
+    return "".join(prefix(f"2001:db8:0:{number:x}::/64") for number in range(count))
+
+
+@listed
+def one_datagram_goes_in_3_ms(case):
+    """An update of 1,000 routes takes 17 datagrams of a link whose MTU is 1,280, so 16 pauses of 2 to 3 ms. The first may be seen late."""
+    with cables(case) as [cable]:
+        with cable.group() as heard:
+            begun(case, cable.table(mtu=1280) + owned(1000))
+            moments, entries = [], 0
+            while entries < 1000:
+                bytes = heard.recv(65_536)
+                moments.append(time.monotonic())
+                entries += (len(bytes) - 4) // 20 if bytes[0] == 2 else 0
+        lasted = 1000 * (moments[-1] - moments[-17])
+        same(f"whether 17 datagrams took from 20 ms on, {lasted:.1f}", 20 <= lasted, True)
+
+
+@listed
+def a_link_that_is_flooded_takes_nothing_from_another(case):
+    with cables(case, 2) as [one, other]:
+        text = one.table(zone=1) + other.table(zone=2)
+        router = begun(case, text)
+        with one.socket(port=4001) as flood:
+            for _ in range(20_000):
+                flood.sendto(NEWS, (str(GROUP), PORT, 0, one.index))
+        other.send(NEWS)
+        router.logs(f"add {LEARNED} metric 2 via fe80::5 iface 1")
+
+
+def play_within(name, program, folder):
+    """A case in name spaces of its own."""
+    words = ["unshare", "-rn", sys.executable, os.path.abspath(__file__), program, "--within", name, folder]
+    done = subprocess.run(words, capture_output=True, text=True, check=False)
+    if done.returncode:
+        raise Failed(done.stdout + done.stderr)
+
+
+def within(program, name, folder):
+    case = Case(program, folder)
+    try:
+        CASES[name](case)
+    except Failed as failed:
+        print(failed, end="")
+        return 1
+    finally:
+        case.close()
+    return 0
+
+
+def main():
+    if len(sys.argv) < 2:
+        sys.exit(f"usage: {sys.argv[0]} PROGRAM [NAME..]")
+    program, names = os.path.realpath(sys.argv[1]), sys.argv[2:]
+    if names[:1] == ["--within"]:
+        return within(program, *names[1:])
+    if not shutil.which("ip") or subprocess.run(["unshare", "-rn", "ip", "link", "add", "here", "type", "veth"], capture_output=True,
+                                                check=False).returncode:
+        print("skipped: inherited sockets, without name spaces of a user's own")
+        print("1 passed, 0 failed")
+        return 0
+    return play(named([(name, lambda folder, name=name: play_within(name, program, folder)) for name in CASES], names))
+
+
+if __name__ == "__main__":
+    sys.exit(main())
