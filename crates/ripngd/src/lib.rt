@@ -8,7 +8,7 @@ pub use ripngd_command_line::{Ask, Marking, Order, Question, VERSION, ask};
 pub use ripngd_config::{Config, ConfigFault, read_config};
 pub use ripngd_daemon::{check, table};
 pub use ripngd_engine::{
-    Engine, EngineFault, Link, LinkFault, Peer, Place, Received, Report, TimeSource,
+    Engine, EngineFault, Link, LinkFault, Peer, Place, Received, Report, Sender, Socket, TimeSource,
 };
 pub use ripngd_show::{PrintFault, show};
 pub use ripngd_udp::{Udp, UdpError, Uptime};

@@ -27,7 +27,7 @@ pub use Rattle.router_core.specs.Machine.{State}
 pub use Rattle.router_core.specs.Offers.{note_number, note_text}
 pub use Rattle.router_core.specs.Reconfiguring.{NamesInterface, reconfigure_text}
 pub use Rattle.router_core.specs.declared.answer.Note.{Note}
-pub use Rattle.router_core.specs.declared.answer.NoteKind.TheVariants.{BadLength, BadPrefix, BadMetric, TableFull, NoMemory}
+pub use Rattle.router_core.specs.declared.answer.NoteKind.TheVariants.{BadLength, BadPrefix, BadMetric, TableFull, NoMemory, NotAccepted, LimitReached}
 pub use Rattle.router_core.specs.declared.answer.Outgoing.{Outgoing}
 pub use Rattle.router_core.specs.declared.arrival.Fault.{Fault}
 pub use Rattle.router_core.specs.declared.arrival.Fault.TheVariants.{Wire, NotRipngPort, NotLinkLocal, OwnAddress, HopLimit, EmptyRequest, BadSource}

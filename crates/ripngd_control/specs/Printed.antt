@@ -1,6 +1,6 @@
 -- What is printed of what is refused, counted, lost and answered (the format is this project's choice).
 use Rattle.std.specs.Prelude.{ℕ, ◌-◌, ◌==◌, List, [], ◌∷◌, ◌++◌, Option, None, Some, codes, decimal, flat_map, if◌then◌else◌, slice_index_or}
-use Rattle.ripngd_control.specs.Below.{enumerate_from, Prefix6, written_addr, written_prefix, Entry as FibEntry, Short, TooLong, Ragged, BadCommand, BadVersion, NotZero, RouteValue, Clock, Fixed, Live, Dying, Origin, Learned, fault_number, fault_text, note_number, note_text, reconfigure_text, Note, BadLength, BadPrefix, BadMetric, TableFull, NoMemory, Fault, Interface, Wire, NotRipngPort, NotLinkLocal, OwnAddress, HopLimit, EmptyRequest, BadSource, route_text, LinkReport, Processed, Sent, Arrived, Counts, Losses, Neighbor, Neighbors, Tally, Refusal, Arrival, Refusals, Reply}
+use Rattle.ripngd_control.specs.Below.{enumerate_from, Prefix6, written_addr, written_prefix, Entry as FibEntry, Short, TooLong, Ragged, BadCommand, BadVersion, NotZero, RouteValue, Clock, Fixed, Live, Dying, Origin, Learned, fault_number, fault_text, note_number, note_text, reconfigure_text, Note, BadLength, BadPrefix, BadMetric, TableFull, NoMemory, NotAccepted, LimitReached, Fault, Interface, Wire, NotRipngPort, NotLinkLocal, OwnAddress, HopLimit, EmptyRequest, BadSource, route_text, LinkReport, Processed, Sent, Arrived, Counts, Losses, Neighbor, Neighbors, Tally, Refusal, Arrival, Refusals, Reply}
 use Rattle.route_table.specs.declared.route.Origin.TheVariants.{Own}
 use Rattle.ripngd_control.specs.declared.refusals.Refusal.TheVariants.{Entry}
 use Rattle.ripngd_control.specs.declared.reply.Reply.TheVariants as replies
@@ -42,7 +42,8 @@ abbrev pub every_refusal : List Refusal
 every_refusal =
     Arrival (Wire Short) ∷ Arrival (Wire TooLong) ∷ Arrival (Wire Ragged) ∷ Arrival (Wire BadCommand) ∷ Arrival (Wire BadVersion)
     ∷ Arrival (Wire NotZero) ∷ Arrival NotRipngPort ∷ Arrival NotLinkLocal ∷ Arrival OwnAddress ∷ Arrival HopLimit
-    ∷ Arrival EmptyRequest ∷ Arrival BadSource ∷ Entry BadLength ∷ Entry BadPrefix ∷ Entry BadMetric ∷ Entry TableFull ∷ Entry NoMemory ∷ []
+    ∷ Arrival EmptyRequest ∷ Arrival BadSource ∷ Entry BadLength ∷ Entry BadPrefix ∷ Entry BadMetric ∷ Entry TableFull ∷ Entry NoMemory
+    ∷ Entry NotAccepted ∷ Entry LimitReached ∷ []
 
 -- a line `refused NR NAME N` or `noted NR NAME N`, if the count is not 0, after a line feed
 abbrev pub count_line : Refusal → ℕ → List ℕ

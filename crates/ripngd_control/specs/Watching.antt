@@ -31,7 +31,7 @@ notes_of number notes = count_by (λ n. note_number n.kind == number) notes
 -- ---- in all
 -- nothing was refused
 abbrev pub no_refusals : Refusals
-no_refusals = record { by_number = replicate 25 0 }
+no_refusals = record { by_number = replicate 27 0 }
 
 -- nothing was counted
 abbrev pub no_counts : Counts
@@ -39,7 +39,7 @@ no_counts = record { arrivals = 0; sends = 0; failed_sends = 0; refusals = no_re
 
 -- each count is that of before with how many there are of its number, up to the greatest u64
 pub record Refused (more : ℕ → ℕ) (r s : Refusals) : Type 0 where
-  pub by_number_are : (number : ℕ) → number < 25 → slice_index_or s.by_number number 0 ≡ counted (slice_index_or r.by_number number 0) (more number)
+  pub by_number_are : (number : ℕ) → number < 27 → slice_index_or s.by_number number 0 ≡ counted (slice_index_or r.by_number number 0) (more number)
 
 -- each count is that of before with how many there are in these, up to the greatest u64
 pub record Counted (c : Counts) (ts : List LinkReport) (d : Counts) : Type 0 where

@@ -90,7 +90,12 @@ fn write_status<S: RouteStore, E, W: Write>(
 {
     let interfaces = router.config().interfaces();
     for (number, interface) in interfaces.iter().enumerate() {
-        let Interface { addr, cost, mtu } = *interface;
+        let Interface {
+            addr,
+            cost,
+            mtu,
+            ..
+        } = *interface;
         writeln!(
             out,
             "interface {number} address {addr} cost {cost} mtu {mtu}"

@@ -15,7 +15,7 @@ pub(crate) enum Refusal {
 }
 
 /// All of them, in the order of their numbers.
-const REFUSALS: [Refusal; 17] = [
+const REFUSALS: [Refusal; 19] = [
     Refusal::Arrival(Fault::Wire(WireError::Short)),
     Refusal::Arrival(Fault::Wire(WireError::TooLong)),
     Refusal::Arrival(Fault::Wire(WireError::Ragged)),
@@ -33,13 +33,15 @@ const REFUSALS: [Refusal; 17] = [
     Refusal::Entry(NoteKind::BadMetric),
     Refusal::Entry(NoteKind::TableFull),
     Refusal::Entry(NoteKind::NoMemory),
+    Refusal::Entry(NoteKind::NotAccepted),
+    Refusal::Entry(NoteKind::LimitReached),
 ];
 
 impl Refusal {
-    /// The number of the fault, 1 to 12, or of the note, 20 to 24.
+    /// The number of the fault, 1 to 12, or of the note, 20 to 26.
     fn number(self) -> usize
         ensures number { result ≡ refusal_number self }
-        ensures within { result < 25 }
+        ensures within { result < 27 }
     {
         match self {
             Refusal::Arrival(fault) => fault.number() as usize,
@@ -60,11 +62,11 @@ impl Display for Refusal {
     }
 }
 
-/// How many datagrams were refused and how many entries skipped, by the number of the fault, 1 to 12, or of the note, 20 to 24. A count
+/// How many datagrams were refused and how many entries skipped, by the number of the fault, 1 to 12, or of the note, 20 to 26. A count
 /// stays at the greatest `u64`.
 #[derive(Clone, Copy, Debug, PartialEq, Eq)]
 pub struct Refusals {
-    pub by_number: [u64; 25],
+    pub by_number: [u64; 27],
 }
 
 impl Refusals {
@@ -72,7 +74,7 @@ impl Refusals {
     pub const fn new() -> Refusals
         ensures { result ≡ no_refusals }
     {
-        Refusals { by_number: [0; 25] }
+        Refusals { by_number: [0; 27] }
     }
 
     /// Counts one more.

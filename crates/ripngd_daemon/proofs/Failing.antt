@@ -24,7 +24,7 @@ print_fails ask printing.Write = tt
 
 -- of a link that is bound
 pub link_fails : (order : Order) (fault : UdpError) → MayFail (asks.Run order) (failure_of_link fault)
-link_fails order (link.Bind port cause) = refl
+link_fails order (link.Bind socket cause) = refl
 link_fails order link.OutOfMemory = tt
 
 -- a configuration that is refused, whatever its refusal was written as

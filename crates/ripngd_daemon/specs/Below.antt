@@ -33,6 +33,7 @@ pub use Rattle.ripngd_engine.specs.Run.{counted}
 pub use Rattle.ripngd_engine.specs.Seen.{Outside, Ran, RanUntilDeaf, Seen, Started, TurnsAnswer, untouched, seen}
 pub use Rattle.ripngd_engine.specs.declared.peer.Peer.{Peer}
 pub use Rattle.ripngd_engine.specs.declared.peer.Place.{Place}
+pub use Rattle.ripngd_engine.specs.declared.peer.Socket.{Socket}
 pub use Rattle.ripngd_engine.specs.declared.report.EngineFault.{EngineFault}
 pub use Rattle.ripngd_engine.specs.declared.report.Report.{Report}
 pub use Rattle.ripngd_show.specs.Shown.{newline}

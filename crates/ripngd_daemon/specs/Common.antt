@@ -8,7 +8,7 @@ pub use Rattle.ripngd_daemon.specs.LastRun.{IsLastRun, start_text}
 pub use Rattle.ripngd_daemon.specs.Losses.{AreLossesOf, has_failed, losses_line, no_losses, nothing_lost}
 pub use Rattle.ripngd_daemon.specs.Reading.{IsFirstBadLine, MakesTable, log_fault_text, IsWritableChange, IsWritableHop, IsLogOf, IsRunOf, RefusesLog, RefusesRun}
 pub use Rattle.ripngd_daemon.specs.Run.{lines_of, FailsBound, FailsIn, IsCutOff, IsRan, ShowsRun, links_of, IsOver, IsToldToStop, Lasts, TurnsAndHeeds, words_of}
-pub use Rattle.ripngd_daemon.specs.Said.{cause_text, failure_line, failure_text, file_cause_text, why_text}
+pub use Rattle.ripngd_daemon.specs.Said.{cause_text, failure_line, failure_text, file_cause_text, socket_text, why_text}
 pub use Rattle.ripngd_daemon.specs.Tabled.{table_text, IsTabled}
 pub use Rattle.ripngd_daemon.specs.Warnings.{has_address, is_never_heard}
 pub use Rattle.ripngd_daemon.specs.Words.{CutsWord, PushesLine}

@@ -52,7 +52,7 @@ abbrev pub MayFail : Ask → Failure → Type 0
 MayFail ask (failures.Read file cause) = IsRead ask file.now
 MayFail ask (failures.Log file cause) = log_file_of ask ≡ Some file.now
 MayFail ask failures.Output = ⊤
-MayFail ask (failures.Bind port cause) = IsTrue (has_sockets ask)
+MayFail ask (failures.Bind socket cause) = IsTrue (has_sockets ask)
 MayFail ask (failures.Listen path why) = control_path_of ask ≡ Some path.now
 MayFail ask (failures.Ask path) = asks_at ask ≡ Some path.now
 MayFail ask (failures.Answer path) = asks_at ask ≡ Some path.now

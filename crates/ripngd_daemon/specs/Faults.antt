@@ -17,5 +17,5 @@ failure_of_engine engine.OutOfMemory = failures.OutOfMemory
 
 -- what a link that was not bound is to the program
 abbrev pub failure_of_link : UdpError → Failure
-failure_of_link (link.Bind port cause) = failures.Bind port cause
+failure_of_link (link.Bind socket cause) = failures.Bind socket cause
 failure_of_link link.OutOfMemory = failures.OutOfMemory

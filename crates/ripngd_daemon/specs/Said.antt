@@ -1,9 +1,10 @@
 -- What standard error says of a failure (the format is this project's choice).
 use Rattle.std.specs.Prelude.{ℕ, List, [], ◌++◌, codes, decimal}
-use Rattle.ripngd_daemon.specs.Below.{Failure, FileCause, ListenFault, newline, BindCause}
+use Rattle.ripngd_daemon.specs.Below.{Failure, FileCause, ListenFault, newline, BindCause, Socket}
 use Rattle.ripngd_daemon.specs.declared.failure.Failure.TheVariants as failures
 use Rattle.ripngd_daemon.specs.declared.failure.FileCause.TheVariants as files
 use Rattle.ripngd_control.specs.declared.control_socket.ListenFault.TheVariants as listening
+use Rattle.ripngd_engine.specs.declared.peer.Socket.TheVariants as sockets
 use Rattle.ripngd_udp.specs.declared.udp.BindCause.TheVariants as causes
 
 -- why a router cannot listen, after the path
@@ -18,6 +19,11 @@ cause_text causes.NotPermitted = codes ": not permitted"
 cause_text causes.InUse = codes ": in use"
 cause_text causes.Other = []
 
+-- that a port of loopback cannot be bound, or that the sockets of a real link are not there, from the number of the first
+abbrev pub socket_text : Socket → List ℕ
+socket_text (sockets.Local port group_port) = codes "cannot bind " ++ decimal port
+socket_text (sockets.Inherited alone group far) = codes "no sockets of port 521 at descriptor " ++ (decimal alone ++ codes " and those with it")
+
 -- why a file cannot be read or written, after its name
 abbrev pub file_cause_text : FileCause → List ℕ
 file_cause_text files.NotFound = codes ": not found"
@@ -28,12 +34,12 @@ file_cause_text files.InUse = codes ": in use"
 file_cause_text files.IsConfig = codes ": is the configuration"
 file_cause_text files.Other = []
 
--- what failed, with its file, its path, its port or its turns
+-- what failed, with its file, its path, its socket or its turns
 abbrev pub failure_text : Failure → List ℕ
 failure_text (failures.Read file cause) = codes "cannot read " ++ (file.now ++ file_cause_text cause)
 failure_text (failures.Log file cause) = codes "cannot write " ++ (file.now ++ file_cause_text cause)
 failure_text failures.Output = codes "cannot write stdout"
-failure_text (failures.Bind port cause) = codes "cannot bind " ++ (decimal port ++ cause_text cause)
+failure_text (failures.Bind socket cause) = socket_text socket ++ cause_text cause
 failure_text (failures.Listen path why) = codes "cannot listen at " ++ (path.now ++ why_text why)
 failure_text (failures.Ask path) = codes "nobody listens at " ++ path.now
 failure_text (failures.Answer path) = codes "no whole answer from " ++ path.now

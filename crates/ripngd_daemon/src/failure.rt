@@ -1,10 +1,10 @@
 //! Failures outside the program, and their messages.
 
 ghost use Rattle.std.specs.Prelude.{◌≡◌, ◌≢◌, ◌⊎◌, ◌↔◌, OnOk, Some};
-ghost use Rattle.ripngd_daemon.specs.Common.{Appends, error_kind, failure_of, failure_of_engine, failure_of_link, cause_text, failure_line, failure_text, file_cause_text, why_text};
+ghost use Rattle.ripngd_daemon.specs.Common.{Appends, error_kind, failure_of, failure_of_engine, failure_of_link, cause_text, failure_line, failure_text, file_cause_text, socket_text, why_text};
 
 use ripngd_control::ListenFault;
-use ripngd_engine::EngineFault;
+use ripngd_engine::{EngineFault, Socket};
 use ripngd_show::PrintFault;
 use ripngd_udp::{BindCause, UdpError};
 use std::fmt::{self, Display};
@@ -71,8 +71,8 @@ pub enum Failure<'a> {
     Log(&'a str, FileCause),
     /// Standard output failed.
     Output,
-    /// A port of 127.0.0.1 cannot be bound.
-    Bind(u16, BindCause),
+    /// A port of 127.0.0.1 cannot be bound, or sockets that were to be inherited are not there.
+    Bind(Socket, BindCause),
     /// A router cannot listen at a path.
     Listen(&'a str, ListenFault),
     /// No router listens at a path.
@@ -107,6 +107,26 @@ fn cause_text(cause: BindCause) -> &'static str
     }
 }
 
+/// That a socket cannot be had, with its port, or with the number of the first socket of a real link.
+#[derive(Clone, Copy)]
+struct SocketText(Socket);
+
+impl Display for SocketText {
+    ghost output = { λ s. Some (socket_text s.0) };
+
+    fn fmt<W: fmt::Write>(&self, f: &mut fmt::Formatter<W>) -> fmt::Result {
+        match self.0 {
+            Socket::Local { port, .. } => write!(f, "cannot bind {port}"),
+            Socket::Inherited { alone, .. } => {
+                write!(
+                    f,
+                    "no sockets of port 521 at descriptor {alone} and those with it"
+                )
+            }
+        }
+    }
+}
+
 impl Display for Failure<'_> {
     ghost output = { λ failure. Some (failure_text failure) };
 
@@ -115,7 +135,12 @@ impl Display for Failure<'_> {
             Failure::Read(file, cause) => write!(f, "cannot read {file}{}", cause.text()),
             Failure::Log(file, cause) => write!(f, "cannot write {file}{}", cause.text()),
             Failure::Output => write!(f, "cannot write stdout"),
-            Failure::Bind(port, cause) => write!(f, "cannot bind {port}{}", cause_text(cause)),
+            Failure::Bind(socket, cause) => write!(
+                f,
+                "{}{}",
+                SocketText(socket),
+                cause_text(cause)
+            ),
             Failure::Listen(path, why) => write!(f, "cannot listen at {path}{}", why_text(why)),
             Failure::Ask(path) => write!(f, "nobody listens at {path}"),
             Failure::Answer(path) => write!(f, "no whole answer from {path}"),
@@ -171,7 +196,7 @@ impl From<UdpError> for Failure<'_> {
 
     fn from(fault: UdpError) -> Self {
         match fault {
-            UdpError::Bind { port, cause } => Failure::Bind(port, cause),
+            UdpError::Bind { socket, cause } => Failure::Bind(socket, cause),
             UdpError::OutOfMemory => Failure::OutOfMemory,
         }
     }

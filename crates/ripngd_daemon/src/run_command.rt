@@ -1,4 +1,4 @@
-//! `run`: one router over UDP sockets of loopback. All options take the same path.
+//! `run`: one router over UDP sockets, of loopback or of real links. All options take the same path.
 
 ghost use Rattle.std.specs.Prelude.{◌≡◌, ◌≢◌, ◌⊎◌, [], IfErr, IfOk, List, None, OnOk, Some, false, length, option_map, ℕ};
 ghost use Rattle.ripngd_daemon.specs.Common.{HasOneEach, MayFail, FailsBound, IsCutOff, IsRan, ShowsRun, links_of, lines_of};

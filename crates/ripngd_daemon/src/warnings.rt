@@ -4,14 +4,22 @@ ghost use Rattle.std.specs.Prelude.{◌≡◌, is_some};
 ghost use Rattle.ripngd_daemon.specs.Common.{has_address, is_never_heard};
 
 use ripngd_config::Config;
-use ripngd_engine::{Peer, Place};
+use ripngd_engine::{Peer, Place, Socket};
 use router_core::{MAX_HOP_LIMIT, RIPNG_PORT};
 use std::io::{self, Write};
+
+/// Whether an interface has a peer at its own port.
+fn hears_itself(place: &Place, peers: &[Peer]) -> bool {
+    match place.socket {
+        Socket::Local { port, .. } => peers.iter().any(|peer| peer.local_port == port),
+        Socket::Inherited { .. } => false,
+    }
+}
 
 /// Writes a line for each interface that has a peer at its own port, and so receives what it sends.
 pub(crate) fn write_echoes<E: Write>(config: &Config, err: &mut E) -> io::Result<()> {
     for (iface, (place, peers)) in config.places.iter().zip(config.peers.iter()).enumerate() {
-        if peers.iter().any(|peer| peer.local_port == place.local_port) {
+        if hears_itself(place, peers.as_slice()) {
             writeln!(err, "ripngd: interface {iface} is its own peer")?;
         }
     }

@@ -96,6 +96,7 @@ pub ran_until : (net : Network) (first later : List Happened) (ends : ℕ → Op
 ran_until net first later ends router m ran lives = (
   (λ other. chosen (slice_get net other) (λ node is. (parted other node is).0)),
   record {
+    zoned = ran.zoned;
     known = known_first net first later ran.known;
     lives = λ other node is.
         at_each (λ (o : ℕ) (x : Option Machine). (n : Node) → slice_get net o ≡ Some n → Lives (config_of n) None (own_deeds o first) x)

@@ -8,7 +8,7 @@ use Rattle.ripng_world.specs.Network.{Network}
 use Rattle.ripngd_control.specs.Commands.{control_text}
 use Rattle.ripngd_control.specs.declared.command.Command.{Command}
 use Rattle.ripngd_control.specs.declared.command.Command.TheVariants as commands
-use Rattle.ripngd_networks.specs.Daemons.{Act, Start, Listen, Tick, Reconfigure, Shutdown, LinkDown, LinkUp, Refuse, Deed, Happened, own_deeds, reconfiguration_of, reconfigurations_by}
+use Rattle.ripngd_networks.specs.Daemons.{Act, Start, Listen, Tick, Reconfigure, Shutdown, LinkDown, LinkUp, Ask, Refuse, Deed, Happened, own_deeds, reconfiguration_of, reconfigurations_by}
 use Rattle.ripngd_runs.specs.Lives.{AreActsFor, AreActsForLines, IsDoneOrRefused, ordered_act, ordered_acts}
 use Rattle.ripngd_runs.specs.Networks.{AreActsForRuns, OrdersNoChange, Program, own_changes}
 
@@ -26,6 +26,7 @@ ordered_change (Reconfigure c) deeds e = ap (λ x. c ∷ x) e
 ordered_change Shutdown deeds e = e
 ordered_change (LinkDown on) deeds e = e
 ordered_change (LinkUp on) deeds e = e
+ordered_change (Ask on) deeds e = e
 ordered_change Refuse deeds e = e
 
 ordered_changes : (deeds : List Deed) → changes_in (ordered_acts deeds) ≡ filter_map (λ d. reconfiguration_of d.act) deeds

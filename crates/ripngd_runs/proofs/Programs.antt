@@ -166,6 +166,7 @@ module _ (net : Network) (runs : ℕ → List Program) (order : List LinkCall) (
   -- it is a network of daemons
   have_run : HaveRun net in_order (λ router. last_of None (runs router))
   have_run = record {
+    zoned = running.zoned;
     known = together.known;
     lives = λ router node is. subst (λ ds. Lives (config_of node) None ds (last_of None (runs router))) (sym (together.own router (below router node is))) (lives router node is);
     given = together.given;

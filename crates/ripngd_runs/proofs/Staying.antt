@@ -1,5 +1,5 @@
 -- A router keeps the number of its interfaces for life.
-use Rattle.std.proofs.Common.{◌≡◌, inl, inr, ℕ, suc, ◌+◌, ◌%◌, max, Bool, true, false, cond, MatchBool, MatchOption, List, [], ◌∷◌, map, length, Option, Some, None, refl, ap, sym, ◌∙◌}
+use Rattle.std.proofs.Common.{◌≡◌, ◌⊎◌, inl, inr, ℕ, suc, ◌+◌, ◌%◌, max, Bool, true, false, cond, MatchBool, MatchOption, List, [], ◌∷◌, map, length, Option, Some, None, refl, ap, sym, ◌∙◌}
 use Rattle.ripng_wire.specs.Wire.{is_response}
 use Rattle.router_core.specs.Ageing.{aged_table, unmarked}
 use Rattle.router_core.specs.Config.{Config}
@@ -12,10 +12,11 @@ use Rattle.router_core.specs.declared.arrival.Fault.{Fault}
 use Rattle.router_core.specs.declared.config.Interface.{Interface}
 use Rattle.router_core.specs.declared.reconfiguring.Change.{Change}
 use Rattle.router_core.specs.declared.reconfiguring.Change.TheVariants.{Cost, Own, Disown}
-use Rattle.ripng_world.proofs.WorldRuns.{set_addresses}
+use Rattle.ripng_world.proofs.WorldRuns.{set_addresses, zoned_address}
+use Rattle.ripngd_engine.specs.Changing.{LinkComesUpOnce, ReconfiguresNothing}
 use Rattle.ripngd_engine.specs.Link.{Call, Gave, Silent, RecvFailed, Handed}
 use Rattle.ripngd_engine.specs.Run.{Machine, Trace, MovedOrLost, arrival}
-use Rattle.ripngd_networks.specs.Daemons.{Act, Start, Listen, Tick, Reconfigure, Shutdown, LinkDown, LinkUp, Refuse, Deed, Does, Goes, HearsCall, Lives, in_force}
+use Rattle.ripngd_networks.specs.Daemons.{Act, Start, Listen, Tick, Reconfigure, Shutdown, LinkDown, LinkUp, Ask, Refuse, Deed, Does, Goes, HearsCall, Lives, in_force}
 
 -- ---- a router
 
@@ -42,7 +43,7 @@ same_ticked old now word = by_due (is_regular_due old now) (is_triggered_due old
     by_due false true = refl
     by_due false false = refl
 
-same_length : (xs : List Interface) → length (map (λ (i : Interface). i.addr) xs) ≡ length xs
+same_length : (xs : List Interface) → length (map zoned_address xs) ≡ length xs
 same_length [] = refl
 same_length (x ∷ xs) = ap suc (same_length xs)
 
@@ -77,6 +78,10 @@ heard Silent m t n hears = ap count_now hears.1.1
 heard RecvFailed m t n hears = ap count_now hears.1
 heard (Handed o went) m t n hears = absurd hears.1
 
+asked : (on : ℕ) (m : Machine) (t : Trace) (n : Machine) → LinkComesUpOnce on m t n ⊎ ReconfiguresNothing m t n → count_now n ≡ count_now m
+asked on m t n (inl up) = stepped m (LinkComesUp up.0 on) up.0 t n (inl up.1)
+asked on m t n (inr nothing) = ap count_now nothing.2
+
 gone : (act : Act) (m : Machine) (t : Trace) (n : Machine) → Goes act m t n → count_now n ≡ count_now m
 gone Start m t n did = absurd did
 gone (Listen call) m t n did = heard call m t n did.1
@@ -85,6 +90,7 @@ gone (Reconfigure c) m t n did = stepped m (Reconfigures did.1.0 c) did.1.0 t n 
 gone Shutdown m t n did = stepped m (ShutsDown did.1.0) did.1.0 t n (inl did.1.1)
 gone (LinkDown on) m t n did = stepped m (LinkGoesDown did.1.0 on) did.1.0 t n (inl did.1.1)
 gone (LinkUp on) m t n did = stepped m (LinkComesUp did.1.0 on) did.1.0 t n (inl did.1.1)
+gone (Ask on) m t n did = asked on m t n did.1
 gone Refuse m t n did = ap count_now did.1.2
 
 does : (config : Config) (before : Option Machine) (act : Act) (t : Trace) (n : Machine) → Does config before act t n → count_now n ≡ count_of (in_force config before)
@@ -95,6 +101,7 @@ does config (Some m) (Reconfigure c) t n did = gone (Reconfigure c) m t n did
 does config (Some m) Shutdown t n did = gone Shutdown m t n did
 does config (Some m) (LinkDown on) t n did = gone (LinkDown on) m t n did
 does config (Some m) (LinkUp on) t n did = gone (LinkUp on) m t n did
+does config (Some m) (Ask on) t n did = gone (Ask on) m t n did
 does config (Some m) Refuse t n did = gone Refuse m t n did
 does config None (Listen call) t n did = absurd did
 does config None Tick t n did = absurd did
@@ -102,6 +109,7 @@ does config None (Reconfigure c) t n did = absurd did
 does config None Shutdown t n did = absurd did
 does config None (LinkDown on) t n did = absurd did
 does config None (LinkUp on) t n did = absurd did
+does config None (Ask on) t n did = absurd did
 does config None Refuse t n did = absurd did
 
 lives_keep : (config : Config) (before : Option Machine) (deeds : List Deed) (n : Machine) → Lives config before deeds (Some n)

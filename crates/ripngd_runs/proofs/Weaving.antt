@@ -7,7 +7,7 @@ use Rattle.ripng_world.specs.Network.{Network, Node, config_of}
 use Rattle.ripng_world.specs.World.{sent_by}
 use Rattle.ripng_world.specs.declared.event.Sent.{Sent}
 use Rattle.ripngd_engine.specs.Link.{Call, Gave, Silent, RecvFailed, Handed}
-use Rattle.ripngd_networks.specs.Daemons.{Act, Start, Listen, Tick, Reconfigure, Shutdown, LinkDown, LinkUp, Refuse, Deed, Happened, own_deeds}
+use Rattle.ripngd_networks.specs.Daemons.{Act, Start, Listen, Tick, Reconfigure, Shutdown, LinkDown, LinkUp, Ask, Refuse, Deed, Happened, own_deeds}
 use Rattle.ripngd_networks.specs.Links.{handed_in, handed_by, IsGiven, AreGiven}
 use Rattle.ripngd_runs.specs.Networks.{LinkCall, own_calls, handed_at, AreCallsGiven}
 use Rattle.router_core.specs.Config.{Config}
@@ -40,6 +40,7 @@ handed_later (Reconfigure c) x xs has = has.1
 handed_later Shutdown x xs has = has.1
 handed_later (LinkDown on) x xs has = has.1
 handed_later (LinkUp on) x xs has = has.1
+handed_later (Ask on) x xs has = has.1
 handed_later Refuse x xs has = has.1
 
 -- ---- what is given
@@ -57,6 +58,7 @@ given_more net few many router config (Reconfigure c) more given = tt
 given_more net few many router config Shutdown more given = tt
 given_more net few many router config (LinkDown on) more given = tt
 given_more net few many router config (LinkUp on) more given = tt
+given_more net few many router config (Ask on) more given = tt
 given_more net few many router config Refuse more given = tt
 
 -- a deed with no call listened to nothing
@@ -68,6 +70,7 @@ given_silent net handed router config (Reconfigure c) calls none has = tt
 given_silent net handed router config Shutdown calls none has = tt
 given_silent net handed router config (LinkDown on) calls none has = tt
 given_silent net handed router config (LinkUp on) calls none has = tt
+given_silent net handed router config (Ask on) calls none has = tt
 given_silent net handed router config Refuse calls none has = tt
 
 -- one with a first call listened to that, or to nothing
@@ -80,6 +83,7 @@ given_first net handed router config (Reconfigure c) x xs has given = tt
 given_first net handed router config Shutdown x xs has given = tt
 given_first net handed router config (LinkDown on) x xs has given = tt
 given_first net handed router config (LinkUp on) x xs has given = tt
+given_first net handed router config (Ask on) x xs has given = tt
 given_first net handed router config Refuse x xs has given = tt
 
 -- ---- one of many

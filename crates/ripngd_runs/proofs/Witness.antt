@@ -18,6 +18,7 @@ use Rattle.ripngd_engine.specs.Link.{Call, Gave, Handed, failed_sends}
 use Rattle.ripngd_engine.specs.Log.{log_of}
 use Rattle.ripngd_engine.specs.Run.{Machine, Trace, ComesUp, Turn, counted, followed_by, one_call}
 use Rattle.ripngd_engine.specs.Seen.{Outside}
+use Rattle.ripng_phases.proofs.TwoRouters.{zoned}
 use Rattle.ripngd_networks.proofs.TwoDaemons.{doc, owned, local, nodes, owner, learner, learned, told_once, request, install_own, get_one, fits_doc, one_entry, owner_is, learner_is, learner_with, word_of, left, sends, owner_up, learner_up, update, ticks, request_given, update_given, request_copied, update_copied, reply, answers, takes_request, learns, takes_update}
 use Rattle.ripngd_runs.specs.Networks.{AreCallsGiven, AreInTurn, AreRunning, LinkCall, Program, calls_of, own_calls}
 
@@ -195,7 +196,7 @@ given = (
 )
 
 pub are_running : AreRunning nodes runs happened
-are_running = record { known = (omega arith, (omega arith, (omega arith, (omega arith, (omega arith, (omega arith, (omega arith, tt))))))); in_turn = in_turn; calls = calls; given = given }
+are_running = record { zoned = zoned; known = (omega arith, (omega arith, (omega arith, (omega arith, (omega arith, (omega arith, (omega arith, tt))))))); in_turn = in_turn; calls = calls; given = given }
 
 -- what the second holds: a route of metric 2 to 2001:db8::/32, by fe80::1
 pub holds_route : map_of.get learner_runs.now.machine.router.table doc ≡ Some (told_once (learned 12))

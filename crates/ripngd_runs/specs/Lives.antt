@@ -1,15 +1,16 @@
 -- A run of the program as a daemon's life.
 use Rattle.std.specs.Prelude.{◌≡◌, ◌≢◌, ◌≤◌, ◌⊎◌, ℕ, List, [], ◌∷◌, ◌++◌, Option, None, Some, filter_map, length}
-use Rattle.ripngd_runs.specs.Below.{AllByRecursion, Order, control_text, Command, outside_before, Machine, all_joined, Seen, Shows, Act, Start, Listen, Tick, Reconfigure, Shutdown, LinkDown, LinkUp, Refuse, Deed, Lives, in_force, traces_of, Config, NamesInterface}
+use Rattle.ripngd_runs.specs.Below.{AllByRecursion, Order, control_text, Command, outside_before, Machine, all_joined, Seen, Shows, Act, Start, Listen, Tick, Reconfigure, Shutdown, LinkDown, LinkUp, Ask, Refuse, Deed, Lives, in_force, traces_of, Config, NamesInterface}
 use Rattle.ripngd_control.specs.declared.command.Command.TheVariants as commands
 
 -- ---- what clients order
 
--- the act, if it is one that a client ordered: a start and what turns do are a daemon's own
+-- the act, if it is one that a client ordered: a start, what turns do, and questions after a loss are a daemon's own
 abbrev pub ordered_act : Act → Option Act
 ordered_act Start = None
 ordered_act (Listen call) = None
 ordered_act Tick = None
+ordered_act (Ask on) = None
 ordered_act act = Some act
 
 -- the acts among these deeds that clients ordered, in their order

@@ -1,6 +1,6 @@
 -- Networks in which each router is the program, run once or again and again.
 use Rattle.std.specs.Prelude.{◌≡◌, ◌≢◌, ℕ, ◌<◌, ◌==◌, if◌then◌else◌, ⊤, false, List, [], ◌∷◌, ◌++◌, length, map, filter_map, flat_map, Option, None, Some, slice_get}
-use Rattle.ripngd_runs.specs.Below.{AllByRecursion, Forward, Prefix6, Lcg, Network, Node, config_of, Past, IsBackedSince, sent_by, Sent, Order, control_text, IsUnderWay, ShowsRun, History, Call, Seen, Act, Listen, reconfiguration_of, IsGiven, handed_in, RouteValue, infinity, forward, Config, Change}
+use Rattle.ripngd_runs.specs.Below.{AllByRecursion, Forward, Prefix6, Lcg, Network, Node, AreZoned, config_of, Past, IsBackedSince, sent_by, Sent, Order, control_text, IsUnderWay, ShowsRun, History, Call, Seen, Act, Listen, reconfiguration_of, IsGiven, handed_in, RouteValue, infinity, forward, Config, Change}
 use Rattle.std.specs.FinMap as map_of
 use Rattle.ripngd_control.specs.declared.command.Command.TheVariants as commands
 use Rattle.ripngd_runs.specs.Lives.{AreActsForLines}
@@ -49,8 +49,10 @@ AreCallsGiven net handed (c ∷ order) =
     ((node : Node) → slice_get net c.router ≡ Some node → IsGiven net handed c.router (config_of node) (Listen c.call))
     × AreCallsGiven net (handed ++ handed_at c) order
 
--- each router of a network is the program: these are its runs, and these all calls of their links, in an order in which they happened
+-- each router of a network is the program: these are its runs, and these all calls of their links, in an order in which they happened.
+-- To each router a link is in one zone (RFC 4007, 5), as it is where no zone is named
 pub record AreRunning (net : Network) (runs : ℕ → List Program) (order : List LinkCall) : Type 0 where
+  pub zoned : AreZoned net
   pub known : AllByRecursion (λ c. c.router < length net) order
   pub in_turn : (router : ℕ) (node : Node) → slice_get net router ≡ Some node → AreInTurn (config_of node) (runs router)
   pub calls : (router : ℕ) → router < length net → own_calls router order ≡ calls_of (runs router)
