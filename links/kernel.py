@@ -1,31 +1,46 @@
 """The kernel's routes of the router, asked for and changed by ip(8)."""
 
-import json
+import asyncio
+import os
 import subprocess
 
 from privilege import hand_on
-from router import say
+from router import read_all, say, spawn
+from system import told
+
+# What a prefix has in place of a gateway where packets to it go nowhere, and the priority of that: any other route goes before it.
+NOWHERE, LAST = "unreachable", 2**32 - 1
 
 
 class Kernel:
     """The routes of one table that have one protocol number. No other is touched: none is replaced, and each that is
-    taken away is named by table, protocol number, priority, gateway and device."""
+    taken away is named by table, protocol number, priority, gateway and device.
+
+    What is to change waits while `ip` works; of a prefix that changes meanwhile only the last word counts."""
 
     def __init__(self, table, protocol, priority, is_used):
         self.own, self.priority, self.is_used = f"table {table} proto {protocol}", priority, is_used
-        # Gateways and devices of prefixes: what the kernel has, and what it refused. Of what it has, prefixes that an
-        # earlier router has left, and this one has not told.
-        self.held, self.refused, self.stale = {}, {}, set()
+        # Gateways and devices of prefixes: what the kernel has, what it refused, and what it is to have next.
+        self.held, self.refused, self.waiting = {}, {}, {}
+        # Prefixes that an earlier router has left, and this one has not told; and those whose route the kernel may have forgotten.
+        self.stale, self.doubted = set(), set()
+        # Prefixes to which packets go nowhere, if there is no other route.
+        self.owned = []
+        self.mends, self.working = False, asyncio.Lock()
 
-    def clear(self):
+    async def clear(self):
         """Takes away all that has the protocol number in the table, whoever left it."""
-        self.held, self.refused, self.stale = {}, {}, set()
-        self.batch([f"route flush {self.own}"])
+        self.is_used, was_used = False, self.is_used
+        async with self.working:
+            self.held, self.refused, self.stale, self.is_used = {}, {}, set(), was_used
+            await self.batch([f"route flush {self.own}"])
 
-    def adopt(self):
-        """Keeps what an earlier companion left until the router has told its own; what has another shape goes."""
+    async def adopt(self, owned):
+        """Keeps what an earlier companion left until the router has told its own; what has another shape goes. Packets to
+        what is always owned go nowhere where they have no other way: they would go to a neighbor and come back."""
+        self.owned = owned
         strange = []
-        for prefix, route in self.there() if self.is_used else ():
+        for prefix, route in self.there() or ():
             gateway, priority = route.get("gateway"), route.get("metric", 0)
             hop = f"via {gateway} dev {route.get('dev')}"
             if gateway and priority == self.priority:
@@ -33,60 +48,111 @@ class Kernel:
             else:
                 place = hop if gateway else f"dev {route['dev']}" if "dev" in route else ""
                 strange.append(f"route del {prefix} {place} metric {priority} {self.own}")
-        self.batch(strange)
+        await self.batch(strange + [self.to_nowhere(prefix) for prefix in owned])
         self.expire()
 
+    def to_nowhere(self, prefix):
+        return f"route add {NOWHERE} {prefix} metric {LAST} {self.own}"
+
     def there(self):
-        """Each prefix with its route, as `ip` says it."""
-        words = ["ip", "-j", "-6", "route", "show", *self.own.split()]
-        told = subprocess.run(words, check=True, stdout=subprocess.PIPE).stdout
-        for route in json.loads(told or b"[]"):
-            prefix = route["dst"].replace("default", "::/0")
-            yield prefix if "/" in prefix else f"{prefix}/128", route
+        """Each prefix with its route, as `ip` says it; or None, where that is not known."""
+        routes = told("-6", "route", "show", *self.own.split()) if self.is_used else None
+        if routes is None:
+            return None
+        prefixes = [route["dst"].replace("default", "::/0") for route in routes]
+        return [(prefix if "/" in prefix else f"{prefix}/128", route) for prefix, route in zip(prefixes, routes)]
+
+    def change(self, changes, doubted=()):
+        """Each prefix is to get the gateway and device that it is given, or no route. Of those in doubt it may have none by now."""
+        self.stale -= changes.keys()
+        self.doubted.update(doubted)
+        self.waiting |= changes
+        self.start()
 
     def expire(self):
         """The router has ended: its routes stay until the next one tells them, or until they are swept."""
-        self.stale = set(self.held)
+        self.stale = {prefix for prefix, hop in (self.held | self.waiting).items() if hop}
 
     def sweep(self, device=None):
         """Takes away what no router has told since, all of it or what goes through a device."""
-        self.change({one: None for one in self.stale if not device or self.held[one].endswith(f" dev {device}")})
+        known = self.held | self.waiting
+        self.change({one: None for one in self.stale if not device or known[one].endswith(f" dev {device}")})
 
     def mend(self):
-        """Tries again what the kernel refused, and adds what somebody took away."""
-        if not self.is_used:
-            return
-        there = {prefix: f"via {route.get('gateway')} dev {route.get('dev')}" for prefix, route in self.there()}
-        wanted = {prefix: hop for prefix, hop in (self.held | self.refused).items() if there.get(prefix) != hop}
-        self.held = {prefix: hop for prefix, hop in self.held.items() if prefix not in wanted}
-        self.change({prefix: hop for prefix, hop in wanted.items() if prefix not in self.stale}, wanted)
+        """Tries again what the kernel refused, and mends what somebody took away or replaced."""
+        self.mends = True
+        self.start()
 
-    def change(self, changes, known=()):
-        """Each prefix gets the gateway and device that it is given, or no route; an old route goes just before. Of what
-        is refused it says how much is not known."""
+    def start(self):
+        if self.is_used and (self.waiting or self.mends) and not self.working.locked():
+            spawn(self.work())
+
+    async def work(self):
+        """Does what waits, and what comes meanwhile."""
+        async with self.working:
+            while self.is_used and (self.waiting or self.mends):
+                changes, self.waiting = self.waiting, {}
+                doubted, self.doubted = self.doubted, set()
+                await self.put(changes, doubted)
+                if self.mends and not self.waiting:
+                    self.mends = False
+                    await self.compare()
+
+    async def compare(self):
+        """Makes what is there what is to be there."""
+        routes = self.there()
+        if routes is None:
+            return
+        there = {
+            prefix: f"via {route['gateway']} dev {route.get('dev')}"
+            for prefix, route in routes
+            if "gateway" in route and route.get("metric") == self.priority
+        }
+        wanted = {one: hop for one, hop in (self.held | self.refused).items() if one not in self.stale or there.get(one) == hop}
+        self.held, self.stale = there, self.stale & there.keys()
+        differing = [one for one in {**there, **wanted} if there.get(one) != wanted.get(one)]
+        await self.put({one: wanted.get(one) for one in differing}, known=wanted)
+        nowhere = {prefix for prefix, route in routes if "gateway" not in route}
+        await self.batch([self.to_nowhere(prefix) for prefix in self.owned if prefix not in nowhere])
+
+    async def put(self, changes, doubted=(), known=()):
+        """Gives each prefix what it is to have; an old route goes just before. Of what is refused it says how much is not
+        known."""
         lines, known = [], {*known, *self.refused}
-        for prefix, hop in changes.items() if self.is_used else ():
+        for prefix, hop in changes.items():
             old = self.held.pop(prefix, None)
             self.refused.pop(prefix, None)
-            self.stale.discard(prefix)
-            if old and old != hop:
+            is_new = old != hop or prefix in doubted
+            if old and is_new:
                 lines.append(f"route del {prefix} {old} metric {self.priority} {self.own}")
             if hop:
                 self.held[prefix] = hop
-            if hop and old != hop:
+            if hop and is_new:
                 lines.append(f"route add {prefix} {hop} metric {self.priority} {self.own}")
-        for number in self.batch(lines):
+        for number in await self.batch(lines):
             verb, prefix = lines[number - 1].split()[1:3]
             if verb == "add":
                 self.refused[prefix] = self.held.pop(prefix)
         if new := self.refused.keys() - known:
             say(f"the kernel refuses {len(new)} routes, that to {min(new)} among them")
 
-    def batch(self, lines):
-        """Has `ip` do the lines, with the one capability; answers the numbers of those that the kernel refused."""
+    async def batch(self, lines):
+        """Has `ip` do the lines, with the one capability; answers the numbers of those that the kernel refused: all, where `ip`
+        fails itself."""
         if not lines or not self.is_used:
             return []
-        text = "".join(line + "\n" for line in lines).encode()
-        words = ["ip", "-6", "-force", "-batch", "-"]
-        said = subprocess.run(words, input=text, capture_output=True, preexec_fn=hand_on).stderr.decode()
-        return [int(line.rsplit(":", 1)[1]) for line in said.splitlines() if line.startswith("Command failed -:")]
+        try:
+            with open(os.memfd_create("batch"), "w+") as file:
+                file.write("\n".join(lines) + "\n")
+                file.seek(0)
+                words = ["ip", "-6", "-force", "-batch", "-"]
+                process = subprocess.Popen(words, stdin=file, stdout=subprocess.DEVNULL, stderr=subprocess.PIPE, preexec_fn=hand_on)
+        except (OSError, subprocess.SubprocessError) as fault:
+            say(f"`ip -batch` fails: {fault}")
+            return range(1, len(lines) + 1)
+        said = (await read_all(process.stderr)).decode(errors="replace").splitlines()
+        failed = [int(line.rsplit(":", 1)[1]) for line in said if line.startswith("Command failed -:")]
+        if process.wait() and not failed:
+            say(f"`ip -batch` fails with status {process.returncode}")
+            return range(1, len(lines) + 1)
+        return failed

@@ -1,4 +1,5 @@
-"""What a process may do: the companion and `ip` CAP_NET_ADMIN once all sockets are open, the router nothing."""
+"""What a process may do: once all sockets are open the companion CAP_NET_RAW, to give them a device that is made anew, and with `ip`
+CAP_NET_ADMIN; the router nothing."""
 
 import ctypes
 import os
@@ -9,7 +10,8 @@ import struct
 
 from table import Fault
 
-NET_ADMIN = 12
+NET_ADMIN, NET_RAW = 12, 13
+NAMES = {NET_ADMIN: "CAP_NET_ADMIN", NET_RAW: "CAP_NET_RAW"}
 # Of prctl(2): PR_SET_PDEATHSIG, PR_SET_KEEPCAPS, PR_CAPBSET_DROP, PR_SET_NO_NEW_PRIVS, PR_CAP_AMBIENT and two more.
 DEATH_SIGNAL, KEEP, DROP_BOUND, NO_NEW_PRIVILEGES, AMBIENT, RAISE, CLEAR_ALL = 1, 8, 24, 38, 47, 2, 4
 VERSION_3 = 0x20080522
@@ -25,7 +27,7 @@ def keep(*capabilities):
     bits = sum(1 << capability for capability in capabilities)
     prctl(AMBIENT, CLEAR_ALL)
     if libc.capset(struct.pack("=Ii", VERSION_3, 0), struct.pack("=6I", bits, bits, bits, 0, 0, 0)) != 0:
-        raise OSError(ctypes.get_errno(), "cannot set capabilities")
+        raise Fault(f"needs {' and '.join(NAMES[capability] for capability in capabilities)}", 3)
 
 
 def account_of(user):
@@ -37,8 +39,8 @@ def account_of(user):
 
 
 def drop(user, *capabilities):
-    """From here on this process is that user, where root started it, and has just these capabilities; and a socket for
-    each neighbor, as far as the system lets it."""
+    """From here on this process is that user, where root started it, and has just these capabilities; and as many files as the
+    system lets it, for the sockets of the links, which the router has twice."""
     most = resource.getrlimit(resource.RLIMIT_NOFILE)[1]
     resource.setrlimit(resource.RLIMIT_NOFILE, (most, most))
     if os.geteuid() == 0:

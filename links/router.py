@@ -2,17 +2,17 @@
 
 import asyncio
 import hashlib
+import json
 import os
 import pathlib
 import shutil
 import subprocess
-import sys
 
 from privilege import leave
 from table import Fault
 
-# Seconds that an answer may take, and the end of the process.
-PATIENCE, ENDS = 10, 5
+# Seconds that an answer may take, and the end of the process: it says of each route twice that it is gone, at its pace.
+PATIENCE, ENDS = 10, 12
 # The mark of the proved program that was installed with this companion: `make install` puts it here.
 MARK = pathlib.Path(__file__).resolve().parent / "ripngd.proved"
 
@@ -21,10 +21,20 @@ def configuration(interfaces, owned):
     """A configuration of interfaces, as their keys and values, and of owned prefixes with their tags."""
     lines = [f"seed = {int.from_bytes(os.urandom(8), 'big') >> 1}"]
     for interface in interfaces:
-        lines += ["", "[[interface]]", *(f"{key} = {value}" for key, value in interface.items())]
+        lines += ["", "[[interface]]", *(f"{key} = {json.dumps(value)}" for key, value in interface.items())]
     for prefix, tag in owned.items():
         lines += ["", "[[prefix]]", f'prefix = "{prefix}"', f"tag = {tag}"]
     return "\n".join(lines) + "\n"
+
+
+def fault_of(program, text):
+    """What the router says of a configuration that it refuses, or None."""
+    words = [program, "check", "/dev/stdin"]
+    try:
+        done = subprocess.run(words, input=text, capture_output=True, text=True, check=False)
+    except OSError as fault:
+        raise Fault(f"cannot start {program}: {fault.strerror}") from None
+    return None if done.returncode == 0 else done.stdout.strip() or done.stderr.strip()
 
 
 def refuse_unproved(program):
@@ -39,8 +49,32 @@ def refuse_unproved(program):
         raise Fault(f"{program} is not the proved program of this ripngd-links, and is taken only with --unproved")
 
 
+class Log:
+    """Standard error. Where it cannot be written, lines are lost, and counted: that is no reason to end."""
+
+    lost, said = 0, 0
+
+    def line(self, text):
+        """Writes a line, and how many were lost just before it."""
+        if self.lost > self.said and self.write(f"ripngd-links: lost {self.lost - self.said} lines of this log\n"):
+            self.said = self.lost
+        self.lost += not self.write(f"{text}\n")
+
+    @staticmethod
+    def write(text):
+        """Whether it was written. No buffer keeps it, so that nothing of it fails at the end."""
+        try:
+            os.write(2, text.encode())
+        except OSError:
+            return False
+        return True
+
+
+log = Log()
+
+
 def say(text):
-    print(f"ripngd-links: {text}", file=sys.stderr, flush=True)
+    log.line(f"ripngd-links: {text}")
 
 
 def spawn(coroutine, running=set()):
@@ -49,22 +83,35 @@ def spawn(coroutine, running=set()):
     task.add_done_callback(running.discard)
 
 
+async def opened(pipe):
+    """A reader of that pipe, in this loop."""
+    reader = asyncio.StreamReader()
+    protocol = asyncio.StreamReaderProtocol(reader)
+    await asyncio.get_running_loop().connect_read_pipe(lambda: protocol, pipe)
+    return reader
+
+
+async def read_all(pipe):
+    return await (await opened(pipe)).read()
+
+
 class Router:
     """A process `ripngd run`, and one command at a time to it."""
 
     def __init__(self, program, folder):
         self.program, self.config, self.control = program, f"{folder}/router.toml", f"{folder}/control"
-        self.process, self.ready, self.turn = None, False, asyncio.Lock()
+        self.process, self.ready, self.turn, self.asked = None, False, asyncio.Lock(), None
 
-    async def live(self, text, debug, changed, said):
-        """Runs the process, and answers its status. `changed` is given the lines of its log, `said` all others."""
+    async def live(self, text, sockets, debug, changed, said):
+        """Runs the process with those sockets, and answers its status. `changed` is given the lines of its log, `said` all others."""
         with open(os.open(self.config, os.O_WRONLY | os.O_CREAT | os.O_TRUNC, 0o600), "w") as file:
             file.write(text)
         words = [self.program, "run", *["-d"] * debug, "-R", "-", "--control", self.control, self.config]
         pipes = {"stdin": subprocess.DEVNULL, "stdout": subprocess.PIPE, "stderr": subprocess.PIPE}
+        own = {"umask": 0o077, "start_new_session": True, "preexec_fn": leave}
         try:
-            self.process = subprocess.Popen(words, **pipes, umask=0o077, start_new_session=True, preexec_fn=leave)
-        except OSError as fault:
+            self.process = subprocess.Popen(words, **pipes, **own, pass_fds=sockets)
+        except (FileNotFoundError, PermissionError) as fault:
             raise Fault(f"cannot start {self.program}: {fault.strerror}") from None
         await asyncio.gather(self.listen(self.process.stdout, changed), self.listen(self.process.stderr, said))
         self.ready = False
@@ -72,9 +119,7 @@ class Router:
 
     async def listen(self, pipe, heard):
         """Hands on whole lines, many at a time."""
-        reader, rest = asyncio.StreamReader(), b""
-        protocol = asyncio.StreamReaderProtocol(reader)
-        await asyncio.get_running_loop().connect_read_pipe(lambda: protocol, pipe)
+        reader, rest = await opened(pipe), b""
         while data := await reader.read(1 << 16):
             *lines, rest = (rest + data).split(b"\n")
             heard([line.decode(errors="replace") for line in lines])
@@ -94,6 +139,14 @@ class Router:
         if verdict != "ok":
             say(f"{command}: {verdict}")
         return lines, verdict
+
+    async def neighbors(self):
+        """Lines on all neighbors; links that ask at one time share an answer."""
+        if not self.ready:
+            return []
+        if not self.asked or self.asked.done():
+            self.asked = asyncio.ensure_future(self.tell("neighbors"))
+        return (await asyncio.shield(self.asked))[0]
 
     def stop(self, command="stop now"):
         """Ends the process by that command, where it listens. From now on it is not ready."""

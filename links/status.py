@@ -6,29 +6,34 @@ import json
 import os
 import re
 import socket
-import time
 from collections import Counter
 
-from system import state_of
+from router import log
+from system import NO_FORWARDING
 from table import Fault
 
 SOCKET = "status"
 # Seconds that an answer may take, and the router's part of it.
-PATIENCE, SOON = 10, 5
+PATIENCE, SOON = 10, 2
 
 
 def report(companion):
     """All that is known, in the words of JSON."""
-    routes = Counter((via, number) for via, number in companion.forwarding.values())
-    relays = {relay.link.device: relay for relay in companion.relays}
+    spoken = {link.link.device: link for link in companion.links}
     links = []
     for link in companion.table.link:
-        told = {"device": link.device, "state": state_of(companion.devices.get(link.device), link.stub), "stub": link.stub}
-        links.append(told | (of_relay(relays[link.device], routes) if link.device in relays else {}))
+        told = {"device": link.device, "state": companion.state(link), "stub": link.stub}
+        links.append(told | (of_link(spoken[link.device]) if link.device in spoken else {}))
     kernel = companion.kernel
     return {
         "router": {"ready": companion.router.ready, "control": companion.router.control},
-        "kernel": {"used": kernel.is_used, "routes": len(kernel.held), "refused": sorted(kernel.refused)},
+        "kernel": {
+            "used": kernel.is_used,
+            "forwarding": companion.forwards,
+            "routes": len(kernel.held),
+            "refused": sorted(kernel.refused),
+        },
+        "log_lines_lost": log.lost,
         "links": links,
     }
 
@@ -73,72 +78,59 @@ async def said_by(router):
         return []
 
 
-def join(told, lines):
-    """Puts what the router says into a report."""
+def join(told, lines, forwarding):
+    """Puts what the router says into a report, with how many routes go by each neighbor."""
+    routes = Counter((number, via) for via, number in forwarding.values())
     whole, interfaces, neighbors = of_router(lines)
-    told["router"] |= whole
+    told["router"] |= whole | {"answers": bool(lines)}
     for link in told["links"]:
-        link |= interfaces.get(link.get("interface"), {})
-        for one in link.get("neighbors", ()):
-            one |= neighbors.get((link["interface"], one["address"]), {})
-            if "last" in one:
-                one["response_seconds_ago"] = round((whole["now"] - one.pop("last")) / 1000, 1)
+        if "interface" in link:
+            link |= interfaces.get(link["interface"], {}) | {"neighbors": []}
+        for (number, address), counted in neighbors.items():
+            if number is not None and number == link.get("interface"):
+                if "last" in counted:
+                    counted["response_seconds_ago"] = round((whole["now"] - counted.pop("last")) / 1000, 1)
+                link["neighbors"].append({"address": address, "routes": routes[number, address]} | counted)
 
 
-def of_relay(relay, routes):
+def of_link(link):
     """What is known of a link on which RIPng is spoken. The number of an interface is the router's, or none."""
-    now = time.monotonic()
-    neighbors = [
-        {
-            "address": str(one.address),
-            "known": one.known,
-            "heard_seconds_ago": round(now - one.heard, 1),
-            "routes": routes[str(one.address), relay.number],
-        }
-        for one in relay.neighbors.values()
-    ]
-    return {
-        "interface": relay.number,
-        "cost": relay.link.cost,
-        "address": str(relay.device.link_local) if relay.up else None,
-        "made_up_address": str(relay.made_up) if relay.up and relay.made_up else None,
-        "neighbors": neighbors,
-        "counts": dict(sorted(relay.counted().items())),
-    }
+    return {"interface": link.number, "cost": link.link.cost, "address": str(link.address) if link.up else None}
 
 
 def lines(told):
     """A report as text, line by line."""
     router = told["router"]
-    yield f"router is {'up' if router['ready'] else 'not up'}, control socket {router['control']}"
+    state = "not up" if not router["ready"] else "up" if router["answers"] else "up, and does not answer"
+    yield f"router is {state}, control socket {router['control']}"
     yield from (f"  {what.replace('_', ' ')} {number}" for what, number in router.items() if type(number) is int)
     yield from (f"  refused {what} {number}" for what, number in router.get("refused", {}).items())
     kernel = told["kernel"]
     yield f"kernel has {kernel['routes']} routes, refused {len(kernel['refused'])}" if kernel["used"] else "kernel is left alone"
     yield from (f"  refused {prefix}" for prefix in kernel["refused"])
+    yield from [f"  {NO_FORWARDING}"] * (kernel["forwarding"] is False)
+    yield from [f"lines of the log that were lost {told['log_lines_lost']}"] * (told["log_lines_lost"] > 0)
     for link in told["links"]:
         words = [f"{link['device']} {link['state']}"]
         if link["stub"]:
             words.append("stub")
         elif link["address"]:
             words.append(f"address {link['address']}")
-            words += [f"to the router {link['made_up_address']}"] if link["made_up_address"] else []
             words += [f"interface {link['interface']}"] if link["interface"] is not None else []
             words.append(f"cost {link['cost']}")
             words += [f"mtu {link['mtu']}"] if "mtu" in link else []
         yield ", ".join(words)
         for one in link.get("neighbors", ()):
-            told = f"last Response {one['response_seconds_ago']:.0f} s ago, " if "response_seconds_ago" in one else ""
-            yield f"  neighbor {one['address']}, heard {one['heard_seconds_ago']:.0f} s ago, {told}{one['routes']} routes"
+            ago = f"last Response {one['response_seconds_ago']:.0f} s ago, " if "response_seconds_ago" in one else ""
+            yield f"  neighbor {one['address']}, {ago}{one['routes']} routes"
             yield from (f"    refused {what} {number}" for what, number in one.get("refused", {}).items())
-        yield from (f"  {what} {number}" for what, number in link.get("counts", {}).items())
 
 
 async def answer(companion, _, writer):
     """A client is told all, and let go."""
     try:
         told = report(companion)
-        join(told, await said_by(companion.router))
+        join(told, await said_by(companion.router), companion.forwarding)
         writer.write(json.dumps(told).encode() + b"\n")
         await writer.drain()
     except OSError:  # it has gone

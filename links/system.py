@@ -1,46 +1,80 @@
-"""The system's devices and addresses, as ip(8) says them."""
+"""The system's devices and addresses, and whether it forwards packets, as ip(8) says."""
 
 import json
 import subprocess
 from dataclasses import dataclass
 from ipaddress import IPv6Address, IPv6Network
 
-UP = "is up"
+from router import say
+
+UP, NO_FORWARDING = "is up", "the system forwards no packets; write `sysctl net.ipv6.conf.all.forwarding=1`"
 UNSURE = {"tentative", "dadfailed"}
 WATCH = ["ip", "-o", "monitor", "link", "address"]
+# How often `ip` is asked before it has failed: a table may change while it is read. What it says then, and of a table without a route.
+TIMES, CHANGED, NO_TABLE = 3, "Dump was interrupted", "FIB table does not exist"
+
+
+def told(*words):
+    """What `ip` says, or None where it fails, which is then said."""
+    for _ in range(TIMES):
+        try:
+            done = subprocess.run(["ip", "-j", *words], capture_output=True, text=True, check=False)
+            fault = done.stderr.strip().split("\n")[0]
+            if NO_TABLE in done.stderr:
+                return []
+            if done.returncode == 0 and CHANGED not in done.stderr:
+                return json.loads(done.stdout or "[]")
+        except (OSError, ValueError) as failed:
+            fault = str(failed)
+    say(f"`ip {' '.join(words)}` fails, and is tried again later: {fault}")
+    return None
 
 
 @dataclass
 class Device:
-    """A device: its link-local address, all of its addresses, the prefixes of its global ones, and more."""
+    """A device: its link-local address, or the one that another on the link has, or whether one is still tried; the prefixes of its
+    global ones, and more."""
 
     index: int
+    is_on: bool
     carrier: bool
     mtu: int
     link_local: IPv6Address | None
-    addresses: set[IPv6Address]
+    refused: IPv6Address | None
+    is_trying: bool
     prefixes: set[IPv6Network]
 
 
 def devices():
-    """All devices, by name. An address that is not yet known to be of this device alone does not count."""
-    told = subprocess.run(["ip", "-j", "address"], check=True, stdout=subprocess.PIPE).stdout
-    return {entry["ifname"]: device(entry) for entry in json.loads(told) if "ifname" in entry}
+    """All devices, by name, or None where that is not known. An address that is not yet known to be of this device alone does not count."""
+    found = told("address")
+    return found and {entry["ifname"]: device(entry) for entry in found if "ifname" in entry}
 
 
 def device(entry):
     """A device as `ip` says it."""
-    told = [one for one in entry["addr_info"] if one["family"] == "inet6" and not UNSURE & one.keys()]
-    near = [IPv6Address(one["local"]) for one in told if one["scope"] == "link"]
-    far = [(one.get("address", one["local"]), one["prefixlen"]) for one in told if one["scope"] == "global"]
+    listed = [one for one in entry["addr_info"] if one["family"] == "inet6"]
+    sure = [one for one in listed if not UNSURE & one.keys()]
+    near = [IPv6Address(one["local"]) for one in sure if one["scope"] == "link"]
+    far = [(one.get("address", one["local"]), one["prefixlen"]) for one in sure if one["scope"] == "global"]
+    refused = [IPv6Address(one["local"]) for one in listed if one["scope"] == "link" and "dadfailed" in one]
+    is_trying = any(one["scope"] == "link" and "tentative" in one for one in listed)
     return Device(
         index=entry["ifindex"],
+        is_on="UP" in entry["flags"],
         carrier={"UP", "LOWER_UP"} <= set(entry["flags"]),
         mtu=entry["mtu"],
         link_local=near[0] if near else None,
-        addresses={IPv6Address(one["local"]) for one in told},
+        refused=refused[0] if refused and not near else None,
+        is_trying=is_trying and not refused,
         prefixes={IPv6Network(prefix, strict=False) for prefix in far},
     )
+
+
+def forwards():
+    """Whether the system forwards packets, or None where that is not known."""
+    found = told("-6", "netconf")
+    return None if found is None else any(one["forwarding"] for one in found if one["interface"] == "all")
 
 
 def state_of(device, stub=False):
@@ -49,4 +83,6 @@ def state_of(device, stub=False):
         return "is not there"
     if not device.carrier:
         return "has no carrier"
+    if device.refused and not stub:
+        return f"has no link-local address, since another has {device.refused} there"
     return UP if device.link_local or stub else "has no link-local address"

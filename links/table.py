@@ -5,8 +5,6 @@ from dataclasses import dataclass, field, fields
 from ipaddress import IPv6Network
 from typing import get_origin
 
-from entries import ALL, Pattern
-
 
 class Fault(Exception):
     """What ends the companion. Its status is 1 where a table is at fault, so that no new start mends it, and else 3."""
@@ -22,13 +20,18 @@ class Link:
 
     device: str
     cost: int = 1
-    peers: int = 64
     own: bool = True
     tag: int = 0
     stub: bool = False
+    zone: int = 0
+    queries: str = "link"
     accept: list[str] = field(default_factory=list)
     reject: list[str] = field(default_factory=list)
-    limit: int = ALL
+    limit: int = 0
+
+    def lists(self):
+        """What the router is to take of it, in keys of its configuration; none of them says all."""
+        return {key: value for key in ("accept", "reject", "limit") if (value := getattr(self, key))}
 
 
 @dataclass
@@ -53,10 +56,11 @@ class Table:
     prefix: list[dict] = field(default_factory=list)
 
 
-NUMBERS = {"cost": 15, "peers": 256, "limit": ALL, "tag": 65535, "table": 2**32 - 1, "protocol": 255, "priority": 2**32 - 1}
+NUMBERS = {"cost": 15, "limit": 65536, "tag": 65535, "zone": 255, "table": 2**32 - 1, "protocol": 255, "priority": 2**32 - 1}
 LEAST = {"tag": 0, "protocol": 5}
+WORDS = {"queries": ("link", "all")}
 KINDS = {str: "a text", int: "a number", bool: "true or false", list: "an array"}
-LINKS = 16
+LINKS = 256
 
 
 def made(kind, words, place=""):
@@ -72,6 +76,8 @@ def made(kind, words, place=""):
             raise Fault(f"{place}{key} must be {KINDS[keys[key]]}{hint}")
         if key in NUMBERS and not LEAST.get(key, 1) <= value <= NUMBERS[key]:
             raise Fault(f"{place}{key} must be from {LEAST.get(key, 1)} to {NUMBERS[key]}")
+        if value not in WORDS.get(key, (value,)):
+            raise Fault(f"{place}{key} must be {' or '.join(WORDS[key])}")
     try:
         return kind(**words)
     except TypeError:
@@ -93,15 +99,16 @@ def pattern_of(text, place):
     """A prefix, or with a `+` behind it that and all longer ones in it."""
     if not isinstance(text, str):
         raise Fault(f"{place} must be a text")
-    prefix = prefix_of(text.removesuffix("+"), place)
-    return Pattern(int(prefix.network_address), prefix.prefixlen, text.endswith("+"))
+    return str(prefix_of(text.removesuffix("+"), place)) + "+" * text.endswith("+")
 
 
 def refuse_twice(names, place):
     """Each name stands once."""
+    seen = set()
     for number, name in enumerate(names):
-        if name in names[:number]:
+        if name in seen:
             raise Fault(f"{place.format(number)}: {name} stands twice")
+        seen.add(name)
 
 
 def checked(table):

@@ -35,17 +35,13 @@ def one_address_on_two_links(net, program):
     routers = a_line_of(net, program, ["fe80::b", "fe80::2", "fe80::3", "fe80::c"])
     ours, wanted = routers["o"], {OWNED["b"][0]: ("fe80::b", "to-b"), OWNED["c"][0]: ("fe80::c", "to-c")}
     settle(routers, least(CABLES, OWNED))
-    same("what is made up while they differ", [ours.link(device)["made_up_address"] for device in ours.devices], [None] * 2)
     ours.space.link_local("to-c", "fe80::2")
-    until(REGULAR, "another address is made up", lambda: ours.link("to-c")["made_up_address"])
+    until(REGULAR, "both have it", lambda: [link["address"] for link in ours.status()["links"]] == ["fe80::2"] * 2)
     settle(routers, least(CABLES, OWNED), REGULAR)
     same("the kernel's routes", hops(ours), wanted)
-    told = [(link["address"], link["made_up_address"] is None) for link in ours.status()["links"]]
-    same("the links", told, [("fe80::2", True), ("fe80::2", False)])
     same("whether the companion runs", ours.process.poll(), None)
     ours.space.link_local("to-c", "fe80::3")
     until(REGULAR, "it is itself again", lambda: ours.link("to-c")["address"] == "fe80::3")
-    same("what is made up of it", ours.link("to-c")["made_up_address"], None)
     settle(routers, least(CABLES, OWNED), REGULAR)
 
 
@@ -55,7 +51,6 @@ def a_neighbor_with_our_address(net, program):
     ours = routers["o"]
     settle(routers, least(CABLES, OWNED), REGULAR)
     same("the kernel's routes", hops(ours), {OWNED["b"][0]: ("fe80::1", "to-b"), OWNED["c"][0]: ("fe80::c", "to-c")})
-    same("what is made up", [bool(ours.link(device)["made_up_address"]) for device in ours.devices], [False, True])
     routers["c"].ask("down")
     for hop, wanted in (("fe80::1", "fe80::c"), ("fe80::99", "fe80::99")):
         stranger(routers["c"].space, f"next-hop={hop}", "fe80::c")

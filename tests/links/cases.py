@@ -3,30 +3,46 @@
 
 import concurrent.futures
 import pathlib
+import subprocess
 import sys
 import tempfile
 
 import addresses
 import changes
 import edges
+import faults
 import lists
 import networks
 import package
+import parts
 import service
 import soak
 import starts
-from spaces import Net, Wrong
+import trust
+from spaces import Net, Wrong, same
+
+
+def the_parts(net, program):
+    """The parts of the companion, as somebody without a privilege."""
+    words = [*edges.AS_BY_A_UNIT[:4], sys.executable, parts.__file__]
+    done = subprocess.run(words, capture_output=True, text=True, check=False)
+    same("what fails", [line for line in done.stdout.splitlines() if not line.startswith("ok ")], [f"{len(parts.CASES)} passed, 0 failed"])
+
 
 CASES = [networks.a_line, networks.a_ring, networks.a_lossy_cable, networks.many_routes]
 CASES += [edges.a_stranger, edges.many_neighbors, edges.a_flood, edges.a_killed_companion]
 CASES += [edges.addresses_come_and_go, edges.links_come_and_go, edges.the_page, edges.no_privilege]
 CASES += [addresses.one_address_on_two_links, addresses.a_neighbor_with_our_address, starts.a_slow_router]
-CASES += [starts.a_late_neighbor, starts.a_silent_neighbor]
+CASES += [trust.one_address_everywhere, trust.a_query_from_afar, trust.a_device_made_anew, trust.old_datagrams]
+CASES += [trust.wrong_sockets, trust.two_devices_on_one_link]
+CASES += [faults.an_absent_device, faults.an_address_of_another, faults.no_forwarding, faults.a_table_without_routes]
+CASES += [faults.an_ip_that_fails, faults.a_log_that_fails, faults.nothing_loops, faults.a_hung_router, faults.a_checked_table]
+CASES += [starts.a_late_neighbor, starts.a_silent_neighbor, starts.a_late_address]
 CASES += [changes.routes_stay, changes.what_is_not_told_goes, changes.routes_come_back, changes.a_link_goes_and_comes]
 CASES += [changes.a_last_update]
 CASES += [lists.half_of_a_datagram, lists.the_greatest_number, lists.static_routes_win]
 CASES += [service.a_refused_table, service.ends_by_signals, service.links_that_are_not_there, service.losses_are_counted]
-CASES += [service.the_units, package.a_package]
+CASES += [service.the_units, package.a_package, the_parts]
 # Played only where it is named.
 LONG = [soak.ten_minutes]
 

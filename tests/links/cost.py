@@ -1,12 +1,13 @@
 #!/usr/bin/env python3
-"""What the companion costs: `cost.py PROGRAM [DATAGRAMS]` prints its processor time for a datagram from a link to the
-router, and for one that is answered, so for one each way. Needs a machine with nothing else to do."""
+"""What a datagram costs: `cost.py PROGRAM [DATAGRAMS]` prints the processor time of router and companion for a Response from a link, and
+for a Request with its answer. Needs a machine with nothing else to do."""
 
 import pathlib
 import sys
 import tempfile
 import time
 
+from changes import routers_of
 from edges import stranger
 from spaces import Net, Ours, until
 
@@ -24,15 +25,17 @@ def main():
         net.cable(o, s)
         ours = Ours(o, program, {"to-s": {}}, ["2001:db8:2::/48"])
         until(20, "the router is up", ours.table)
-        time.sleep(3)
+        time.sleep(7)
         stranger(s, "request")
+        both = {"router": routers_of(ours)[0], "companion": ours.process.pid}
         for kind in ("responses", "requests"):
             time.sleep(1)
-            before = spent(ours.process.pid)
+            before = {name: spent(pid) for name, pid in both.items()}
             stranger(s, kind, "::", str(many))
-            until(60, "all is sent", lambda: spent(ours.process.pid) == (time.sleep(1), spent(ours.process.pid))[1])
-            print(f"{kind}: {(spent(ours.process.pid) - before) / many / 1000:.1f} us each")
-        print(ours.counts())
+            until(60, "all is done", lambda: spent(both["router"]) - (time.sleep(1), spent(both["router"]))[1] > -1_000_000)
+            each = {name: (spent(pid) - before[name]) / many / 1000 for name, pid in both.items()}
+            print(f"{kind}: " + ", ".join(f"{name} {time:.1f} us" for name, time in each.items()))
+        print(f"lost {ours.lost()}")
 
 
 if __name__ == "__main__":

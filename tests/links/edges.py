@@ -9,17 +9,19 @@ import time
 from least import QUICK, REGULAR, TRIGGERED, least, settle
 from spaces import COMPANION, HERE, ROOT, Bird, Ours, same, until
 
-# What the router refuses and the companion drops of each kind of stranger.
+# What the router refuses of each kind of stranger.
 RUBBISH = ("Short", "Ragged", "BadCommand", "BadVersion", "NotZero")
 STRANGE = {
-    "rubbish": (dict.fromkeys(RUBBISH, 5), {"taken": 25}),
-    "hop-limit": ({}, {"dropped: hop limit not 255": 10}),
-    "global-source": ({}, {"dropped: source not link-local": 10}),
-    "other-port": ({}, {"dropped: from another port": 10}),
+    "rubbish": dict.fromkeys(RUBBISH, 5),
+    "hop-limit": {"HopLimit": 10},
+    "global-source": {"NotLinkLocal": 10},
+    # Half of these are Requests, which are answered (RFC 2080, section 2.4.1).
+    "other-port": {"NotRipngPort": 5},
 }
-# As a unit of systemd starts it: no root, and two capabilities.
+ALL = {name: 0 for kind in STRANGE.values() for name in kind}
+# As a unit of systemd starts it: no root, and three capabilities.
 AS_BY_A_UNIT = ["setpriv", "--reuid=65534", "--regid=65534", "--clear-groups"]
-AS_BY_A_UNIT += [f"--{kind}-caps=+net_admin,+net_bind_service" for kind in ("inh", "ambient")]
+AS_BY_A_UNIT += [f"--{kind}-caps=+net_admin,+net_bind_service,+net_raw" for kind in ("inh", "ambient")]
 
 
 def stranger(space, *words):
@@ -43,13 +45,11 @@ def a_stranger(net, program):
     ours = routers["o"]
     wanted = least([("b", 1, "o", 1)], {"b": ["2001:db8:1::/48"], "o": ["2001:db8:2::/48"]})
     settle(routers, wanted)
-    for kind, (refused, dropped) in STRANGE.items():
-        counts, faults = ours.counts(), ours.refused()
+    for kind, refused in STRANGE.items():
+        faults = ours.refused()
         stranger(s, kind)
         time.sleep(1)
-        same(f"what the companion counts of {kind}", grown(counts, ours.counts(), dropped, "to-s "), dropped)
-        refused = dict.fromkeys(RUBBISH, 0) | refused
-        same(f"what the router counts of {kind}", grown(faults, ours.refused(), RUBBISH), refused)
+        same(f"what the router counts of {kind}", grown(faults, ours.refused(), ALL), ALL | refused)
         settle(routers, wanted, 1)
     stranger(s, "neighbor")
     until(5, "a neighbor is believed", lambda: ours.table().get("2001:db8:bad::/48") == 2)
@@ -57,25 +57,27 @@ def a_stranger(net, program):
 
 
 def many_neighbors(net, program):
-    """Five neighbors where three have room: the one that was silent longest goes, and each is answered."""
+    """Five neighbors, one after another and again: each is answered."""
     o, s = net.space("o"), net.space("s")
     net.cable(o, s)
-    ours = Ours(o, program, {"to-s": {"peers": 3}}, ["2001:db8:2::/48"])
+    ours = Ours(o, program, {"to-s": {}}, ["2001:db8:2::/48"])
     until(REGULAR, "the router is up", ours.table)
     for number in range(1, 6):
         s.ip("address", "add", f"fe80::{number}/64", "dev", "to-o", "nodad")
     for number in (1, 2, 3, 1, 4, 1, 4, 5):
         same("the answer", stranger(s, "request", f"fe80::{number}"), "255 2001:db8:2::/48")
-    # 4 takes the place of 2, since 1 was heard again, and 5 that of 3.
-    same("how many were let go", ours.counts().get("to-s neighbors let go"), 2)
+
+
+def arrivals(line):
+    return int(line.split("arrivals ")[1].split()[0])
 
 
 def a_flood(net, program):
-    """Three thousand made-up neighbors: no more stay than have room, and other links and later neighbors are served."""
+    """Three thousand made-up neighbors: other links and later neighbors are served."""
     b, o, s = (net.space(name) for name in "bos")
     net.cable(b, o)
     net.cable(o, s)
-    ours = Ours(o, program, {"to-b": {}, "to-s": {"peers": 8}}, ["2001:db8:2::/48"])
+    ours = Ours(o, program, {"to-b": {}, "to-s": {}}, ["2001:db8:2::/48"])
     bird = Bird(b, {"to-o": 1}, ["2001:db8:1::/48"])
     until(REGULAR, "BIRD has learned", lambda: "2001:db8:2::/48" in bird.table())
     until(REGULAR, "BIRD's first prefix is learned", lambda: ours.table().get("2001:db8:1::/48") == 2)
@@ -85,14 +87,8 @@ def a_flood(net, program):
     until(TRIGGERED, "BIRD's new prefix is learned", lambda: ours.table().get("2001:db8:10::/48") == 2)
     until(TRIGGERED, "one of the flood is learned, and told", lambda: bird.table().get("2001:db8:bad::/48") == 3)
 
-    def heard():
-        counts = ours.counts()
-        return [counts.get(f"to-s {what}", 0) for what in ("taken", "dropped: too much at once")]
-
-    until(REGULAR, lambda: f"all of the flood is taken or dropped, but {heard()}", lambda: sum(heard()) == 3000)
-    same("whether some were taken, and some dropped", [number > 0 for number in heard()], [True, True])
-    more = len(list(pathlib.Path(f"/proc/{ours.process.pid}/fd").iterdir())) - before
-    same("whether it has no more sockets than neighbors have room", more <= 8, True)
+    until(REGULAR, "all of the flood is taken", lambda: sum(map(arrivals, ours.ctl("neighbors"))) >= 3000)
+    until(5, "it has no more files", lambda: len(list(pathlib.Path(f"/proc/{ours.process.pid}/fd").iterdir())) <= before)
     answer = "255 " + " ".join(f"2001:db8:{name}::/48" for name in ("1", "2", "10", "bad"))
     same("the answer to a later neighbor", stranger(s, "request"), answer)
 
@@ -132,7 +128,8 @@ def a_killed_companion(net, program):
         same("routes of others", others_routes(o), before)
 
     has_learned()
-    same("how many the kernel refused", ours.counts()["kernel refused"], 1)
+    ours.process.send_signal(signal.SIGUSR1)
+    until(5, "how many the kernel refused is said", lambda: ours.said("kernel has 1, refused 1\n"))
     children = ours.children()
     ours.end(signal.SIGKILL)
     until(5, "its children end with it", lambda: not any(pathlib.Path(f"/proc/{child}").exists() for child in children))
@@ -205,7 +202,7 @@ def the_page(net, program):
     try:
         found = [f"RUNTIME_DIRECTORY={folder}", f"PATH={folder}:{os.environ['PATH']}"]
         here.start("companion", "env", *found, sys.executable, COMPANION, "--unproved", ROOT / "links/bird.toml")
-        until(REGULAR, "the route is there", lambda: set(here.routes("proto", "152")) == {"2001:db8:b::/48"})
+        until(REGULAR, "the route is there", lambda: "via" in here.ip("-6", "route", "show", "2001:db8:b::/48", "proto", "152"))
     finally:
         here.do(*words, "down", check=False)
 
@@ -216,7 +213,7 @@ def status(pid, key):
 
 
 def no_privilege(net, program):
-    """The companion keeps one capability, or none where it leaves the kernel alone; the router has none ever."""
+    """The companion keeps two capabilities, or one where it leaves the kernel alone; the router has none ever."""
     spaces = {name: net.space(name) for name in "bopq"}
     for name in "opq":
         net.cable(spaces["b"], spaces[name])
@@ -228,7 +225,7 @@ def no_privilege(net, program):
     }
     for name, router in routers.items():
         until(REGULAR, f"one {name} has learned", lambda: len(router.table()) == 4)
-        wanted, kept = (0, 0) if name == "with --no-kernel" else (3, 1 << 12)
+        wanted, kept = (0, 1 << 13) if name == "with --no-kernel" else (3, 1 << 12 | 1 << 13)
         until(5, f"the kernel of one {name} has {wanted}", lambda: len(router.kernel()) == wanted)
         for pid in [router.process.pid, *router.children()]:
             mine = kept if pid == router.process.pid else 0

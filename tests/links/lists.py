@@ -2,7 +2,7 @@
 
 from addresses import BAD, BAE, hops
 from edges import stranger
-from least import REGULAR
+from least import GARBAGE, REGULAR
 from spaces import Bird, Ours, same, until
 
 
@@ -18,12 +18,12 @@ def half_of_a_datagram(net, program):
         until(REGULAR, "the route is there", ours.kernel)
         same("the kernel's routes", hops(ours), wanted)
         same("what the router has of the other", ours.routes().get(refused), None)
-        same("what is counted", ours.link("to-s")["counts"]["entries refused"], 2)
+        same("what is counted", ours.neighbor("to-s", "fe80::5")["refused"]["NotAccepted"], 2)
         same("the status", ours.end(15), 0)
 
 
 def the_greatest_number(net, program):
-    """Three of five prefixes have room; what is withdrawn makes room for another, at its next update."""
+    """Three of five prefixes have room; what is withdrawn, and deleted two minutes later, makes room for another, at its next update."""
     b, o = net.space("b"), net.space("o")
     net.cable(b, o)
     prefixes = [f"2001:db8:{number}::/48" for number in range(1, 6)]
@@ -31,10 +31,10 @@ def the_greatest_number(net, program):
     ours = Ours(o, program, {"to-b": {"limit": 3}})
     until(REGULAR, "it has learned", lambda: set(ours.kernel()) == set(prefixes[:3]))
     bird.own(prefixes)
-    until(REGULAR, "the others are refused", lambda: ours.link("to-b")["counts"].get("entries refused", 0) >= 2)
+    until(REGULAR, "the others are refused", lambda: ours.refused().get("LimitReached", 0) >= 2)
     same("the kernel's routes", set(ours.kernel()), set(prefixes[:3]))
     bird.own(prefixes[1:4])
-    until(REGULAR, "another has room", lambda: set(ours.kernel()) == set(prefixes[1:4]))
+    until(GARBAGE, "another has room", lambda: set(ours.kernel()) == set(prefixes[1:4]))
 
 
 def static_routes_win(net, program):

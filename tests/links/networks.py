@@ -122,7 +122,8 @@ def many_routes(net, program):
         "o": Ours(o, program, {"to-b": {}, "to-f": {}}),
         "f": Frr(f, ["to-o"]),
     }
-    for kept, seconds in ((owned["b"], REGULAR), (owned["b"][::2], 2 * TRIGGERED)):
+    # The socket of FRR holds seven datagrams: where it gets little of the processor it loses some, until a later update has them.
+    for kept, seconds in ((owned["b"], 2 * REGULAR), (owned["b"][::2], REGULAR)):
         if kept is not owned["b"]:
             routers["b"].own(kept)
         wanted = least(cables, owned | {"b": kept})
@@ -133,5 +134,4 @@ def many_routes(net, program):
 
         until(seconds, what, lambda: not differing(routers, wanted))
         settle(routers, wanted, 10)
-        lost = {what: number for what, number in routers["o"].link("to-b")["counts"].items() if "lost" in what or "dropped" in what}
-        same("what is lost", lost, {})
+        same("what is lost", routers["o"].lost(), 0)

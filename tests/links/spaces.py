@@ -6,7 +6,6 @@ import os
 import pathlib
 import re
 import shutil
-import signal
 import subprocess
 import sys
 import time
@@ -138,10 +137,10 @@ class Space:
 class Ours:
     """This router with its companion."""
 
-    def __init__(self, space, program, links, prefixes=(), words=(), by=()):
+    def __init__(self, space, program, links, prefixes=(), words=(), by=(), more=()):
         self.space, self.program, self.by, self.devices = space, program, by, list(links)
         self.config, self.run, self.words = space.folder / "links.toml", space.folder / "run", words
-        lines = ['user = "nobody"', f'program = "{program}"', f'folder = "{self.run}"']
+        lines = ['user = "nobody"', f'program = "{program}"', f'folder = "{self.run}"', *more]
         for device, keys in links.items():
             lines += ["[[link]]", f'device = "{device}"']
             lines += [f"{key} = {json.dumps(value)}" for key, value in keys.items()]
@@ -171,16 +170,22 @@ class Ours:
         return {prefix: metric for prefix, metric in self.routes().items() if metric < INFINITY}
 
     def kernel(self):
-        return self.space.routes("proto", str(PROTOCOL))
+        """Its learned routes there."""
+        found = self.space.routes("proto", str(PROTOCOL))
+        return {prefix: route for prefix, route in found.items() if "gateway" in route}
 
-    def counts(self):
-        """What the companion has counted, by its words: `to-b sent`, `kernel refused`."""
-        before = self.space.text("companion").count("ripngd-links: kernel ")
-        self.process.send_signal(signal.SIGUSR1)
-        until(5, "the counts", lambda: self.space.text("companion").count("ripngd-links: kernel ") > before)
-        text = self.space.text("companion")
-        found = re.findall(r"^ripngd-links: (to-\S+ .*|kernel has \d+, refused) (\d+)$", text, re.M)
-        return {re.sub("has .* ", "", words): int(number) for words, number in found}
+    def nowhere(self):
+        """Prefixes to which packets go nowhere there."""
+        found = self.space.routes("proto", str(PROTOCOL))
+        return {prefix for prefix, route in found.items() if route.get("type") == "unreachable"}
+
+    def said(self, text):
+        """How often the companion has said that."""
+        return self.space.text("companion").count(text)
+
+    def neighbor(self, device, address):
+        """What the router counts of a neighbor, by `status`, or nothing."""
+        return next((one for one in self.link(device).get("neighbors", ()) if one["address"] == address), {})
 
     def status(self):
         """What `ripngd-links status --json` says."""
@@ -195,6 +200,11 @@ class Ours:
         """What the router has refused, by name."""
         found = (line.split() for line in self.ctl("counts"))
         return {words[2]: int(words[3]) for words in found if words[0] in ("refused", "noted")}
+
+    def lost(self):
+        """How much the router has lost: datagrams that it was to send, and steps."""
+        found = next(line.split() for line in self.ctl("counts") if line.startswith("lost "))
+        return sum(map(int, found[2::2]))
 
     def children(self):
         told = subprocess.run(["pgrep", "-P", str(self.process.pid)], capture_output=True, text=True, check=False)

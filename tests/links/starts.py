@@ -3,6 +3,7 @@
 import sys
 import time
 
+from edges import stranger
 from least import QUICK, REGULAR, least, settle
 from spaces import HERE, Bird, Frr, Ours, same, until
 
@@ -31,8 +32,7 @@ def a_slow_router(net, program):
     ours = routers["o"] = Ours(o, slow, {"to-b": {}, "to-c": {}}, owned["o"])
     ours.program = program
     settle(routers, least([("b", 1, "o", 1), ("o", 1, "c", 1)], owned), REGULAR)
-    counts = ours.counts()
-    same("what is dropped", {what: number for what, number in counts.items() if "dropped" in what}, {})
+    same("what is lost", ours.lost(), 0)
 
 
 def a_silent_neighbor(net, program):
@@ -50,6 +50,23 @@ def a_silent_neighbor(net, program):
     s.ip("link", "set", "to-o", "up")
     s.ip("address", "replace", "fe80::5/64", "dev", "to-o", "nodad")
     until(REGULAR, "it is asked", lambda: s.text("late").endswith("True\n"))
+
+
+def a_late_address(net, program):
+    """A device is set down and up, and its address is tried for five seconds: a neighbor asks meanwhile, once, and is answered as soon as
+    there is an address from which to answer."""
+    o, s = net.space("o"), net.space("s")
+    net.cable(o, s)
+    s.link_local("to-o", "fe80::5")
+    ours = Ours(o, program, {"to-s": {}}, ["2001:db8:2::/48"])
+    until(REGULAR, "the router is up", ours.table)
+    o.do("sysctl", "-qw", "net.ipv6.conf.to-s.dad_transmits=5")
+    for _ in range(2):
+        o.ip("link", "set", "to-s", "down")
+        until(QUICK, "it is down", lambda: ours.link("to-s")["state"] == "has no carrier")
+        o.ip("link", "set", "to-s", "up")
+        same("whether it has an address", "tentative" in o.ip("address", "show", "dev", "to-s"), True)
+        same("the answer", stranger(s, "request", "fe80::5"), "255 2001:db8:2::/48")
 
 
 def a_late_neighbor(net, program):

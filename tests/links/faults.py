@@ -1,0 +1,186 @@
+"""Cases of what is not as it should be around the companion: it says so, goes on, and tries again. Nothing but a refused table ends it
+with status 1, after which a unit does not start it again."""
+
+import os
+import re
+import signal
+import subprocess
+import sys
+import time
+
+from changes import routers_of
+from edges import AS_BY_A_UNIT
+from least import REGULAR
+from spaces import COMPANION, Bird, Ours, same, until
+
+LEARNED, OWNED = "2001:db8:1::/48", "2001:db8:a::/48"
+# Seconds within which a router starts that waits for nothing, on a machine that does much else; and from one look at what nobody tells
+# to the next, with those.
+SOON, LOOK = 7, 75
+# What takes the place of ip(8): it fails while there is a file.
+FAILING = """#!/bin/sh
+if [ -e {file} ]; then echo "no room" >&2; exit 2; fi
+exec {ip} "$@"
+"""
+
+
+def a_pair(net, program, links=(), **more):
+    """BIRD, and this router on a link to it and on those links."""
+    b, o = net.space("b"), net.space("o")
+    net.cable(b, o)
+    o.link_local("to-b", "fe80::2")
+    bird = Bird(b, {"to-o": 1}, [LEARNED])
+    return bird, Ours(o, program, {"to-b": {}} | dict(links), [OWNED], **more)
+
+
+def an_absent_device(net, program):
+    """A device that is not there is named at once, keeps no other link waiting, and is used as soon as it is there."""
+    _, ours = a_pair(net, program, {"to-c": {}})
+    until(REGULAR, "it is named", lambda: ours.said("to-c is not there"))
+    began = time.monotonic()
+    until(REGULAR, "the router is up", lambda: ours.said("running, "))
+    same("whether it has waited", time.monotonic() - began > SOON, False)
+    same("what is said", ours.said("ripngd-links: to-c is not there\n"), 1)
+    c = net.space("c")
+    net.cable(c, ours.space)
+    Bird(c, {"to-o": 1}, ["2001:db8:3::/48"])
+    until(REGULAR, "both are used", lambda: set(ours.kernel()) == {LEARNED, "2001:db8:3::/48"})
+    same("whether it is said", ours.said("ripngd-links: to-c is up\n"), 1)
+
+
+def an_address_of_another(net, program):
+    """An address that another on the link has is no address, and the link says why it is not up."""
+    o, s = net.space("o"), net.space("s")
+    net.cable(o, s)
+    s.link_local("to-o", "fe80::5")
+    o.do("sysctl", "-qw", "net.ipv6.conf.to-s.addr_gen_mode=1")
+    o.ip("-6", "address", "flush", "dev", "to-s", "scope", "link")
+    o.ip("address", "add", "fe80::5/64", "dev", "to-s")
+    until(REGULAR, "it is refused", lambda: "dadfailed" in o.ip("address", "show", "dev", "to-s"))
+    ours = Ours(o, program, {"to-s": {}}, [OWNED])
+    why = "to-s has no link-local address, since another has fe80::5 there"
+    until(REGULAR, "it is said", lambda: ours.said(f"ripngd-links: {why}\n"))
+    same("the status", ours.link("to-s")["state"], why.removeprefix("to-s "))
+
+
+def no_forwarding(net, program):
+    """A system that forwards nothing is named at the start and in `status`, and no longer once it does."""
+    b, o = net.space("b"), net.space("o")
+    net.cable(b, o)
+    o.do("sysctl", "-qw", "net.ipv6.conf.all.forwarding=0")
+    ours = Ours(o, program, {"to-b": {}}, [OWNED])
+    until(REGULAR, "it is said", lambda: ours.said("ripngd-links: the system forwards no packets; write `sysctl net.ipv6.conf.all."))
+    same("the status", ours.status()["kernel"]["forwarding"], False)
+    o.do("sysctl", "-qw", "net.ipv6.conf.all.forwarding=1")
+    until(LOOK, "it is not said any longer", lambda: ours.status()["kernel"]["forwarding"])
+
+
+def a_table_without_routes(net, program):
+    """A table of the kernel that has had no route yet is empty."""
+    _, ours = a_pair(net, program, more=["table = 100"])
+    until(REGULAR, "it has learned", lambda: ours.table() == {LEARNED: 2, OWNED: 1})
+    same("what is said of `ip`", ours.said("fails"), 0)
+    same("its status", ours.end(signal.SIGTERM), 0)
+
+
+def an_ip_that_fails(net, program):
+    """ip(8) fails for a while, at the start and later: what it was to do is done when it no longer does."""
+    broken, folder = net.folder / "broken", net.folder / "bin"
+    folder.mkdir()
+    (folder / "ip").write_text(FAILING.format(file=broken, ip="/sbin/ip" if os.path.exists("/sbin/ip") else "/bin/ip"))
+    (folder / "ip").chmod(0o755)
+    broken.touch()
+    bird, ours = a_pair(net, program, by=["env", f"PATH={folder}:{os.environ['PATH']}"])
+    until(REGULAR, "it is said", lambda: ours.said("`ip address` fails, and is tried again later: no room"))
+    broken.unlink()
+    until(REGULAR, "it has learned", lambda: set(ours.kernel()) == {LEARNED})
+    until(LOOK, "what is owned leads nowhere", lambda: ours.nowhere() == {OWNED})
+    broken.touch()
+    bird.own(["2001:db8:5::/48"])
+    until(REGULAR, "the router has learned", lambda: ours.table() == {"2001:db8:5::/48": 2, OWNED: 1})
+    until(5, "it is known that the kernel lacks it", lambda: ours.status()["kernel"]["refused"] == ["2001:db8:5::/48"])
+    broken.unlink()
+    until(LOOK, "the kernel's routes are right", lambda: set(ours.kernel()) == {"2001:db8:5::/48"})
+    same("whether it runs", ours.process.poll(), None)
+
+
+def a_log_that_fails(net, program):
+    """Standard error cannot be written, from the start or once its reader has gone: lines are lost, and counted."""
+    _, ours = a_pair(net, program, by=["sh", "-c", 'exec "$0" "$@" 2> /dev/full'])
+    until(REGULAR, "it has learned", lambda: set(ours.kernel()) == {LEARNED})
+    same("whether losses are counted", ours.status()["log_lines_lost"] > 0, True)
+    same("its status", ours.end(signal.SIGTERM), 0)
+    same("its routes", ours.kernel(), {})
+    ours.by = ["bash", "-c", 'exec "$0" "$@" 2> >(sleep 1)']
+    ours.start()
+    until(REGULAR, "it has learned", lambda: set(ours.kernel()) == {LEARNED})
+    time.sleep(2)
+    ours.space.ip("link", "set", "to-b", "down")
+    until(REGULAR, "its route is gone", lambda: not ours.kernel())
+    same("whether it runs", ours.process.poll(), None)
+    until(5, "that line is counted", lambda: ours.status()["log_lines_lost"] > 0)
+    same("its status", ours.end(signal.SIGTERM), 0)
+
+
+def nothing_loops(net, program):
+    """A packet to a part of what is owned that nobody has goes nowhere, and not to a neighbor with a default route; the way to what is
+    there stays, and at the end nothing is left."""
+    bird, ours = a_pair(net, program)
+    bird.own(["::/0"])
+    until(REGULAR, "it has learned", lambda: "default" in ours.space.ip("-6", "route", "show", "proto", "152"))
+    until(5, "what is owned leads nowhere", lambda: ours.nowhere() == {OWNED})
+    ours.space.ip("address", "add", "2001:db8:a:1::1/64", "dev", "to-b", "nodad")
+
+    def way(address):
+        found = subprocess.run(["ip", "-n", ours.space.full, "-6", "route", "get", address], capture_output=True, text=True, check=False)
+        told = re.search(r"No route to host| dev (\S+)", found.stdout + found.stderr)
+        return told and (told[1] or told[0])
+
+    same("the way to what nobody has", way("2001:db8:a:dead::1"), "No route to host")
+    same("the way to what is there", way("2001:db8:a:1::2"), "to-b")
+    same("the way to all else", way("2600::1"), "to-b")
+    ours.end(signal.SIGKILL)
+    same("what a killed one leaves", ours.nowhere(), {OWNED})
+    ours.start()
+    until(REGULAR, "it has learned", lambda: ours.said("running, ") == 2)
+    same("what it owns then", ours.nowhere(), {OWNED})
+    same("its status", ours.end(signal.SIGTERM), 0)
+    same("what is left", ours.space.routes("proto", "152"), {})
+
+
+def a_hung_router(net, program):
+    """`status` says of a router that does not answer that it does not."""
+    _, ours = a_pair(net, program)
+    until(REGULAR, "it has learned", ours.kernel)
+    [router] = routers_of(ours)
+    os.kill(router, signal.SIGSTOP)
+    words = [sys.executable, COMPANION, "status", ours.run]
+    told = subprocess.run(words, capture_output=True, text=True, check=True).stdout
+    os.kill(router, signal.SIGCONT)
+    same("the first line", told.splitlines()[0], f"router is up, and does not answer, control socket {ours.run}/control")
+
+
+LINK = '[[link]]\ndevice = "eth7"\n'
+# Tables, each with the status and the last line of `check`.
+CHECKED = {
+    LINK + '[[link]]\ndevice = "lo"\nstub = true\n[[prefix]]\nprefix = "2001:db8::/32"\n': (0, "ok links 1 stubs 1 prefixes 1"),
+    LINK + 'queries = "all"\nzone = 3\n': (0, "ok links 1 stubs 0 prefixes 0"),
+    LINK + 'queries = "none"\n': (1, "link[0].queries must be link or all"),
+    LINK + "zone = 256\n": (1, "link[0].zone must be from 1 to 255"),
+    LINK + "cots = 1\n": (1, "unknown key link[0].cots"),
+    LINK + 'reject = ["::"]\n': (1, "link[0].reject[0]: `::` is not an IPv6 prefix with its length"),
+}
+
+
+def a_checked_table(net, program):
+    """Who has no privilege may ask whether a table would be taken; what this system lacks is a warning."""
+    space, table = net.space("o"), net.folder / "table.toml"
+    space.do("sysctl", "-qw", "net.ipv6.conf.all.forwarding=0")
+    for text, (status, line) in CHECKED.items():
+        table.write_text(f'program = "{program}"\nuser = "nobody-there"\n{text}')
+        words = ["ip", "netns", "exec", space.full, *AS_BY_A_UNIT[:4], "--bounding-set=-all", sys.executable, COMPANION]
+        done = subprocess.run([*words, "check", "--unproved", table], capture_output=True, text=True, check=False)
+        told = done.stdout.strip() if status == 0 else done.stderr.removeprefix(f"ripngd-links: {table}: ").strip()
+        same(f"status and line of {text}", (done.returncode, told), (status, line))
+        for warning in ("eth7 is not there", "the system forwards no packets", "there is no account `nobody-there`") * (status == 0):
+            same(f"whether `{warning}` is said", f"ripngd-links: warning: {warning}" in done.stderr, True)
