@@ -3,7 +3,7 @@
 
 ghost use Rattle.std.specs.Prelude.{◌≡◌, ◌⊎◌, ◌≤◌, [], Ok, Option, Some, false, length, take, true};
 ghost use Rattle.ripng_world.specs.Labs.{LabValue};
-ghost use Rattle.ripngd_trace.specs.Reading.{IsTraced};
+ghost use Rattle.ripngd_trace.specs.Scripts.{IsScriptTraced};
 
 use ripngd_trace::trace;
 use std::alloc::Global;
@@ -51,7 +51,8 @@ pub extern "C" fn lab_page_trace(
 ) -> u32
     ensures status { result ≤ 3 }
     ensures fits { result ≤ 1 → written.new ≤ length out.new }
-    ensures traced { result ≤ 1 → (lab : Option LabValue) × IsTraced (Some []) lab (Some (take written.new out.new)) }
+    ensures done { result ≡ 0 → (lab : Option LabValue) × IsScriptTraced script.now true (Some []) lab (Some (take written.new out.new)) }
+    ensures refused { result ≡ 1 → (lab : Option LabValue) × IsScriptTraced script.now false (Some []) lab (Some (take written.new out.new)) }
 {
     let mut lines = Vec::new(alloc);
     let ended = trace(alloc, script, &mut lines);

@@ -17,7 +17,8 @@ pushed R [] (v ∷ ys) x y before here = absurd before
 pushed R (w ∷ xs) [] x y before here = absurd before
 pushed R (w ∷ xs) (v ∷ ys) x y before here = (before.0, pushed R xs ys x y before.1 here)
 
-taken : {X : Type 0} (xs : List X) (i : ℕ) (x : X) → i < length xs → x ≡ get_or xs i x → take (i + 1) xs ≡ take i xs ++ x ∷ []
+-- one item more
+pub taken : {X : Type 0} (xs : List X) (i : ℕ) (x : X) → i < length xs → x ≡ get_or xs i x → take (i + 1) xs ≡ take i xs ++ x ∷ []
 taken {X} xs i x lt is = take_more xs i x lt ∙ ap (λ (z : X). take i xs ++ z ∷ []) (sym is)
 
 -- they agree up to a place, and there

@@ -1,3 +1,7 @@
-pub mod Planning
-pub mod ScriptWatching
+pub mod Doing
 pub mod Exercises
+pub mod Planning
+pub mod Saying
+pub mod ScriptWatching
+pub mod Waving
+pub mod Words

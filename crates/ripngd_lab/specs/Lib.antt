@@ -1,8 +1,10 @@
 pub mod Asides
 pub mod Below
 pub mod Common
+pub mod Doing
 pub mod Exercises
 pub mod Expecting
 pub mod Phasing
 pub mod Plans
 pub mod ScriptWatching
+pub mod Scripts

@@ -1,7 +1,7 @@
 //! A network that runs, and what lines do with it.
 
-ghost use Rattle.std.specs.Prelude.{◌≡◌, ◌<◌, ◌++◌, ◌∷◌, [], IfErr, IfOk, IfSome, OnOk, Some, length};
-ghost use Rattle.ripngd_lab.specs.Common.{Prints, aside_of, with_member, HasTold, HappensGiving, WatchedInPart, event_of, failures, value_of};
+ghost use Rattle.std.specs.Prelude.{◌≡◌, ◌<◌, ◌++◌, ◌∷◌, [], IfErr, IfOk, IfSome, OnOk, Some, length, map};
+ghost use Rattle.ripngd_lab.specs.Common.{AreAtEach, EndsIn, IsAtEach, Notes, Prints, aside_of, with_member, HasDone, HasTold, IsNote, MeansAct, HappensGiving, WatchedInPart, event_of, failures, value_of};
 
 use crate::forms::{Action, Step};
 use crate::plan::{Outages, Ticking, set_member};
@@ -9,8 +9,8 @@ use crate::{Expected, Horizon, Line, Notice, Outcome, Refusal, Stop, Unmet, Watc
 use prefix6::Prefix;
 use ripng_world::{Event, Lab, LabError, Observer, Running, Stopped};
 use route_table::SortedRoutes;
-use router_core::{Answer, INTERFACE_LIMIT};
-use std::alloc::Global;
+use router_core::Answer;
+use std::alloc::{AllocError, Global};
 
 /// The tables of a script's routers.
 pub type Routes = SortedRoutes;
@@ -104,7 +104,8 @@ impl Course {
 
     /// Does what a line says. The output of a router goes to the observer alone.
     pub fn act<V: Watch>(&mut self, action: Action, line: &Line<'_>, watch: &mut V) -> Outcome
-        ensures { HasTold result V.starts V.takes V.fails V.notes (Some (value_of self.old.site), watch.old) (Some (value_of self.new.site), watch.new) }
+        ensures done { OnOk result (HasDone (MeansAct action line.entry.now) V.starts V.takes V.notes (Some (value_of self.old.site), watch.old) (Some (value_of self.new.site), watch.new)) }
+        ensures told { HasTold result V.starts V.takes V.fails V.notes (Some (value_of self.old.site), watch.old) (Some (value_of self.new.site), watch.new) }
     {
         let (router, word) = (line.router, line.word);
         match action {
@@ -142,26 +143,37 @@ impl Course {
     /// The observer is notified of what a line did, beside events and phases.
     fn tell<V: Watch>(&self, notice: Notice<'_>, watch: &mut V) -> Outcome
         requires { aside_of notice ≡ Prints }
-        ensures { HasTold result V.starts V.takes V.fails V.notes (Some (value_of self.now.site), watch.old) (Some (value_of self.now.site), watch.new) }
+        ensures done { OnOk result (HasDone (IsNote) V.starts V.takes V.notes (Some (value_of self.now.site), watch.old) (Some (value_of self.now.site), watch.new)) }
+        ensures told { HasTold result V.starts V.takes V.fails V.notes (Some (value_of self.now.site), watch.old) (Some (value_of self.now.site), watch.new) }
     {
         Ok(watch.noticed(notice)?)
     }
 
     /// An event at each interface on a link. Where the link goes down it is cut, and where it comes up it is mended.
     fn happen_at_link<V: Watch>(&mut self, kind: Step, line: &Line<'_>, watch: &mut V) -> Outcome
-        ensures { HasTold result V.starts V.takes V.fails V.notes (Some (value_of self.old.site), watch.old) (Some (value_of self.new.site), watch.new) }
+        ensures done { OnOk result (HasDone (IsAtEach kind line.entry.now) V.starts V.takes V.notes (Some (value_of self.old.site), watch.old) (Some (value_of self.new.site), watch.new)) }
+        ensures told { HasTold result V.starts V.takes V.fails V.notes (Some (value_of self.old.site), watch.old) (Some (value_of self.new.site), watch.new) }
     {
         let events = self.events_at(kind, line)?;
-        let link = usize::from(line.link);
-        if kind != Step::Cost {
-            set_member(&mut self.outages.cut, link, kind == Step::Down)?;
-        }
+        self.mark_link(kind, usize::from(line.link))?;
         self.play(&line.wave(Ticking::Nobody), None, &events, watch)
+    }
+
+    /// A link is cut where it goes down, and mended where it comes up.
+    fn mark_link(&mut self, kind: Step, link: usize) -> Result<(), AllocError>
+        ensures { self.new.site ≡ self.old.site }
+    {
+        match kind {
+            Step::Down => set_member(&mut self.outages.cut, link, true),
+            Step::Up => set_member(&mut self.outages.cut, link, false),
+            _ => Ok(()),
+        }
     }
 
     /// Rounds are made, and what they sent is passed by.
     fn go_round<V: Watch>(&mut self, line: &Line<'_>, watch: &mut V) -> Outcome
-        ensures { HasTold result V.starts V.takes V.fails V.notes (Some (value_of self.old.site), watch.old) (Some (value_of self.new.site), watch.new) }
+        ensures done { OnOk result (HasDone (EndsIn Notes) V.starts V.takes V.notes (Some (value_of self.old.site), watch.old) (Some (value_of self.new.site), watch.new)) }
+        ensures told { HasTold result V.starts V.takes V.fails V.notes (Some (value_of self.old.site), watch.old) (Some (value_of self.new.site), watch.new) }
     {
         self.make_rounds(line, watch)?;
         self.unheard = self.sent();
@@ -170,6 +182,7 @@ impl Course {
 
     /// A datagram is lost, unless it is already.
     fn lose<V: Watch>(&mut self, datagram: usize, watch: &mut V) -> Outcome
+        ensures done { OnOk result (HasDone (IsNote) V.starts V.takes V.notes (Some (value_of self.old.site), watch.old) (Some (value_of self.new.site), watch.new)) }
         ensures told { HasTold result V.starts V.takes V.fails V.notes (Some (value_of self.old.site), watch.old) (Some (value_of self.new.site), watch.new) }
         ensures lost { OnOk result (self.new.outages.lost.items ≡ self.old.outages.lost.items ++ datagram ∷ []) }
     {
@@ -183,19 +196,29 @@ impl Course {
 
     /// A router has another horizon from now on.
     pub fn bend<V: Watch>(&mut self, line: &Line<'_>, watch: &mut V) -> Outcome
-        ensures { HasTold result V.starts V.takes V.fails V.notes (Some (value_of self.old.site), watch.old) (Some (value_of self.new.site), watch.new) }
+        ensures done { OnOk result (HasDone (IsNote) V.starts V.takes V.notes (Some (value_of self.old.site), watch.old) (Some (value_of self.new.site), watch.new)) }
+        ensures told { HasTold result V.starts V.takes V.fails V.notes (Some (value_of self.old.site), watch.old) (Some (value_of self.new.site), watch.new) }
     {
         let (router, horizon) = (line.router, line.horizon);
+        self.set_horizon(router, horizon)?;
+        self.tell(Notice::Horizon { router, horizon }, watch)
+    }
+
+    /// A router has that horizon; only another one than RIPng's is kept.
+    fn set_horizon(&mut self, router: usize, horizon: Horizon) -> Result<(), AllocError>
+        ensures { self.new.site ≡ self.old.site }
+    {
         self.horizons.retain(|(other, _)| *other != router);
         if horizon != Horizon::Poison {
             self.horizons.push((router, horizon))?;
         }
-        self.tell(Notice::Horizon { router, horizon }, watch)
+        Ok(())
     }
 
     /// Prints the routes of a router, or of all, to a prefix, or to all.
     fn print<V: Watch>(&self, router: Option<usize>, to: Option<&Prefix>, watch: &mut V) -> Outcome
-        ensures { HasTold result V.starts V.takes V.fails V.notes (Some (value_of self.now.site), watch.old) (Some (value_of self.now.site), watch.new) }
+        ensures done { OnOk result (HasDone (IsNote) V.starts V.takes V.notes (Some (value_of self.now.site), watch.old) (Some (value_of self.now.site), watch.new)) }
+        ensures told { HasTold result V.starts V.takes V.fails V.notes (Some (value_of self.now.site), watch.old) (Some (value_of self.now.site), watch.new) }
     {
         let routers = self.site.running().routers();
         check_named(router, routers, LabError::NoSuchRouter)?;
@@ -203,7 +226,8 @@ impl Course {
     }
 
     fn show_sent<V: Watch>(&self, asked: Option<usize>, watch: &mut V) -> Outcome
-        ensures { HasTold result V.starts V.takes V.fails V.notes (Some (value_of self.now.site), watch.old) (Some (value_of self.now.site), watch.new) }
+        ensures done { OnOk result (HasDone (IsNote) V.starts V.takes V.notes (Some (value_of self.now.site), watch.old) (Some (value_of self.now.site), watch.new)) }
+        ensures told { HasTold result V.starts V.takes V.fails V.notes (Some (value_of self.now.site), watch.old) (Some (value_of self.now.site), watch.new) }
     {
         check_named(asked, self.sent(), LabError::NoSuchDatagram)?;
         self.tell(Notice::Datagrams(self.site.running(), asked), watch)
@@ -255,22 +279,38 @@ impl Course {
         ensures set { OnOk result (self.new.outages.cut.items ≡ with_member cut line.entry.now.link self.old.outages.cut.items) }
         ensures site { self.new.site ≡ self.old.site }
     {
-        let _ = self.events_at(Step::Down, line)?;
+        let _ = self.places_on(line.link)?;
         Ok(set_member(&mut self.outages.cut, usize::from(line.link), cut)?)
     }
 
     /// An event at each interface on the link of a line, by router and interface. `NoSuchLink` if the link has no interface.
-    fn events_at(&self, kind: Step, line: &Line<'_>) -> Result<Vec<Event<'static>>, Stop> {
-        let lab = self.site.running();
-        let events: Vec<Event<'static>> = (0..lab.routers().saturating_mul(INTERFACE_LIMIT))
-            .map(|place| (place / INTERFACE_LIMIT, place % INTERFACE_LIMIT))
-            .filter(|(router, iface)| lab.link(*router, *iface) == Some(line.link))
-            .map(|(router, iface)| line.event(kind, router, iface))
+    fn events_at(&self, kind: Step, line: &Line<'_>) -> Result<Vec<Event<'static>>, Stop>
+        ensures { IfOk result (λ events. AreAtEach kind line.entry.now (map event_of events.items)) }
+    {
+        let places = self.places_on(line.link)?;
+        let events: Vec<Event<'static>> = places
+            .iter()
+            .map(|&(router, iface)| line.event(kind, router, iface))
             .collect(self.alloc)?;
-        if events.is_empty() {
+        Ok(events)
+    }
+
+    /// The interfaces on a link, each after its router's number, in order. `NoSuchLink` if there is none.
+    fn places_on(&self, link: u16) -> Result<Vec<(usize, usize)>, Stop> {
+        let lab = self.site.running();
+        let mut places = Vec::new(self.alloc);
+        for router in 0..lab.routers() {
+            let count = lab
+                .router(router)
+                .map_or(0, |at| at.config().interfaces().len());
+            let interfaces = (0..count).map(|iface| (router, iface));
+            places.extend(interfaces.filter(|&(router, iface)| lab.link(router, iface)
+                == Some(link)))?;
+        }
+        if places.is_empty() {
             return Err(Stop::Refused(Refusal::NoSuchLink));
         }
-        Ok(events)
+        Ok(places)
     }
 }
 

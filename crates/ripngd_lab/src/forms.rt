@@ -1,5 +1,8 @@
 //! The forms of lines, as docs/SCRIPTS.md has them: the words of each, what a line of it does, and why a line matches no form.
 
+ghost use Rattle.std.specs.Prelude.{◌≡◌, map};
+ghost use Rattle.ripngd_lab.specs.Common.{first_word, forms};
+
 /// What a line does.
 #[derive(Clone, Copy, Debug, PartialEq, Eq)]
 pub enum Verb {
@@ -163,9 +166,19 @@ pub enum Wrong {
     NotSent,
 }
 
+/// The forms, in order.
+pub fn forms() -> &'static [(&'static str, Verb)]
+    ensures { map (λ form. (form.0.now, form.1)) result.now ≡ forms }
+{
+    &FORMS
+}
+
 /// The first word of a line or of a form.
-pub fn first_word(text: &str) -> &str {
-    text.split(' ').next().unwrap_or("")
+pub fn first_word(text: &str) -> &str
+    ensures { result.now ≡ first_word text.now }
+{
+    let (word, _) = text.split_once(' ').unwrap_or((text, ""));
+    word
 }
 
 /// The words of a form, by its number among all.

@@ -248,7 +248,7 @@ fn meaning_of_network(refused: NetRefused) -> &'static str {
             "word 1 of iface: ADDR is that of an earlier interface of the network",
         NetRefused::BadRouter { refusal, .. } => match refusal {
             ConfigRefused::NoInterface => "a router has at least one iface line after it",
-            ConfigRefused::TooManyInterfaces => "a router has at most 16 interfaces",
+            ConfigRefused::TooManyInterfaces => "a router has at most 256 interfaces",
             ConfigRefused::AddressNotLinkLocal =>
                 "word 1 of iface: ADDR is a link-local address, of fe80::/10, like fe80::1",
             ConfigRefused::AddressTwice =>
@@ -260,6 +260,6 @@ fn meaning_of_network(refused: NetRefused) -> &'static str {
             ConfigRefused::PrefixNotAllowed =>
                 "word 1 of own: PREFIX is a prefix that is neither multicast nor link-local, like 2001:db8::/32",
         },
-        NetRefused::OutOfMemory => "",
+        NetRefused::ZoneNamed | NetRefused::OutOfMemory => "",
     }
 }

@@ -1,6 +1,9 @@
 //! Horizons: what a router advertises on the link on which it learned a route. RIPng has split horizon with poisoned reverse; a router
 //! without it is no router of RIPng, and nothing is promised of its network.
 
+ghost use Rattle.std.specs.Prelude.{IfSome};
+ghost use Rattle.ripngd_lab.specs.Common.{IsDelivery, event_of};
+
 use crate::{Course, Network, addr_at};
 use prefix6::{Addr6, Prefix};
 use ripng_wire::{Command, Rte, decode, encode};
@@ -64,7 +67,9 @@ impl Advert {
     }
 
     /// What comes to the router of a delivery, if it accepts that.
-    pub fn accepted<'b>(&'b self, lab: &Network, event: &Event<'_>) -> Option<Arrival<'b>> {
+    pub fn accepted<'b>(&'b self, lab: &Network, event: &Event<'_>) -> Option<Arrival<'b>>
+        ensures { IfSome result (λ arrival. IsDelivery arrival.now (event_of event.entry.now)) }
+    {
         let &Event::Deliver { iface, now, .. } = event else {
             return None;
         };

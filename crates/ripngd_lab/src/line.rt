@@ -1,8 +1,11 @@
 //! A line of a script: what it does, and what its words stand for.
 
+ghost use Rattle.std.specs.Prelude.{◌≡◌, IfOk, IfSome};
+ghost use Rattle.ripngd_lab.specs.Common.{IsVerbOf, arrival_by, event_by, event_of};
+
 use crate::context::{are_bytes, is_name, moment_after, named, number, up_to};
 use crate::expecting::FATES;
-use crate::forms::{FORMS, Step, Verb};
+use crate::forms::{Step, Verb, first_word, forms};
 use crate::horizon::HORIZONS;
 use crate::moving::{PHASES_LIMIT, end_of_phases};
 use crate::plan::{Ticking, Wave};
@@ -57,11 +60,16 @@ pub struct Line<'a> {
 
 /// Reads a line, whose words are one space apart; or says where it leaves the form that it follows longest. The last time is then the
 /// one that it names.
-pub fn read_line<'a>(text: &'a str, context: &mut Context) -> Result<Line<'a>, BadLine> {
+pub fn read_line<'a>(text: &'a str, context: &mut Context) -> Result<Line<'a>, BadLine>
+    ensures { IfOk result (λ line. IsVerbOf line.verb text.now) }
+{
     let (mut farthest, mut last) = (0, context.last);
     let mut bad = BadLine::Unknown;
-    for (form, (words, verb)) in FORMS.iter().enumerate() {
-        let mut line = Line::new(*verb, context);
+    for form in 0..forms().len() {
+        let Some((words, verb)) = form_for(form, text) else {
+            continue;
+        };
+        let mut line = Line::new(verb, context);
         let Err(wrong) = line.follow(words, text, context) else {
             context.last = line.last;
             return Ok(line);
@@ -77,8 +85,23 @@ pub fn read_line<'a>(text: &'a str, context: &mut Context) -> Result<Line<'a>, B
     Err(bad)
 }
 
+/// The form of that number among all, if it begins with the first word of a line: its words, and what a line of it does.
+fn form_for(number: usize, line: &str) -> Option<(&'static str, Verb)>
+    ensures { IfSome result (λ form. IsVerbOf form.1 line.now) }
+{
+    let Some(form) = forms().get(number) else {
+        return None;
+    };
+    if first_word(form.0) != first_word(line) {
+        return None;
+    }
+    Some(*form)
+}
+
 impl<'a> Line<'a> {
-    fn new(verb: Verb, context: &Context) -> Line<'a> {
+    fn new(verb: Verb, context: &Context) -> Line<'a>
+        ensures { result.verb ≡ verb }
+    {
         Line {
             verb,
             text: "",
@@ -110,7 +133,9 @@ impl<'a> Line<'a> {
     }
 
     /// Reads the words of a line by those of a form, up to the first that does not fit. For K and TEXT all that are left are one.
-    fn follow(&mut self, form: &str, text: &'a str, context: &Context) -> Result<(), Wrong> {
+    fn follow(&mut self, form: &str, text: &'a str, context: &Context) -> Result<(), Wrong>
+        ensures { self.new.verb ≡ self.old.verb }
+    {
         let mut rest = Some(text);
         for part in form.split(' ') {
             let left = rest.ok_or(Wrong::Missing)?;
@@ -126,7 +151,9 @@ impl<'a> Line<'a> {
     }
 
     /// Reads a word, or for K and TEXT all that are left, as a part of the form.
-    fn take(&mut self, part: &str, word: &'a str, context: &Context) -> Result<(), Wrong> {
+    fn take(&mut self, part: &str, word: &'a str, context: &Context) -> Result<(), Wrong>
+        ensures { self.new.verb ≡ self.old.verb }
+    {
         match part {
             "R" => self.router = context.router(word)?,
             "I" => self.iface = number(word)?,
@@ -160,7 +187,9 @@ impl<'a> Line<'a> {
     }
 
     /// Reads a word as a part that is no number, or as itself.
-    fn take_other(&mut self, part: &str, word: &'a str) -> Result<(), Wrong> {
+    fn take_other(&mut self, part: &str, word: &'a str) -> Result<(), Wrong>
+        ensures { self.new.verb ≡ self.old.verb }
+    {
         match part {
             "NAME" if is_name(word) && word != "quiet" => self.text = word,
             "HEX" if word == "-" || are_bytes(word.as_bytes()) => self.text = word,
@@ -190,7 +219,9 @@ impl<'a> Line<'a> {
     }
 
     /// The numbers of datagrams that are lost.
-    fn take_places(&mut self, words: &'a str) -> Result<(), Wrong> {
+    fn take_places(&mut self, words: &'a str) -> Result<(), Wrong>
+        ensures { self.new.verb ≡ self.old.verb }
+    {
         for word in words.split(' ') {
             let _: usize = number(word)?;
             self.place = self.place.saturating_add(1);
@@ -200,7 +231,9 @@ impl<'a> Line<'a> {
     }
 
     /// The event that the line makes happen at an interface of a router.
-    pub fn event(&self, step: Step, router: usize, iface: usize) -> Event<'static> {
+    pub fn event(&self, step: Step, router: usize, iface: usize) -> Event<'static>
+        ensures { event_of result ≡ event_by step self.entry.now router iface }
+    {
         let (now, word, datagram) = (self.now, self.word, self.datagram);
         let (cost, prefix, tag) = (self.cost, self.prefix, self.tag);
         let reconfigure = |change| Event::Reconfigure {
@@ -227,7 +260,10 @@ impl<'a> Line<'a> {
     }
 
     /// What a line of many events makes happen.
-    pub fn wave(&self, ticking: Ticking) -> Wave<'a> {
+    pub fn wave(&self, ticking: Ticking) -> Wave<'a>
+        ensures ticking { result.ticking ≡ ticking }
+        ensures moment { result.moment ≡ self.entry.now.now }
+    {
         Wave {
             ticking,
             moment: self.now,
@@ -237,7 +273,9 @@ impl<'a> Line<'a> {
 
     /// A datagram of an outside host, with these bytes, as it arrives. If the line does not say otherwise, it comes as a Response of
     /// the link does.
-    pub fn arrival<'b>(&self, bytes: &'b [u8]) -> Arrival<'b> {
+    pub fn arrival<'b>(&self, bytes: &'b [u8]) -> Arrival<'b>
+        ensures { result ≡ arrival_by self.entry.now bytes.now }
+    {
         Arrival {
             now: self.now,
             iface: self.iface,

@@ -1,8 +1,8 @@
 //! What moves a network, with a report to the observer of the script: an event, a forged Response, waves of plans, rounds, and phases.
 //! A phase is a minute of random events in which each router's regular update arrives once, without rounds.
 
-ghost use Rattle.std.specs.Prelude.{◌≡◌, IfErr, OnOk, Some};
-ghost use Rattle.ripngd_lab.specs.Common.{HealsIn, AllTakePart, AreMadeAndCounted, IsStopAt, StopsPhases, HasTold, value_of};
+ghost use Rattle.std.specs.Prelude.{◌≡◌, ℕ, IfErr, OnOk, Some, is_some, map};
+ghost use Rattle.ripngd_lab.specs.Common.{HealsIn, AllTakePart, AreMadeAndCounted, EndsInPhases, HasDone, InTurn, IsEvent, IsLie, IsPlayed, IsStopAt, IsWave, StopsPhases, HasTold, event_of, ticks_of, value_of};
 
 use crate::context::{OrNone, moment_after};
 use crate::horizon::Advert;
@@ -41,7 +41,8 @@ impl fmt::Display for MadePhases {
 impl Course {
     /// Makes an event happen, unless it is refused.
     pub fn step<V: Watch>(&mut self, event: &Event<'_>, watch: &mut V) -> Outcome
-        ensures { HasTold result V.starts V.takes V.fails V.notes (Some (value_of self.old.site), watch.old) (Some (value_of self.new.site), watch.new) }
+        ensures done { OnOk result (HasDone (IsEvent (event_of event.entry.now)) V.starts V.takes V.notes (Some (value_of self.old.site), watch.old) (Some (value_of self.new.site), watch.new)) }
+        ensures told { HasTold result V.starts V.takes V.fails V.notes (Some (value_of self.old.site), watch.old) (Some (value_of self.new.site), watch.new) }
     {
         match self.site.step_watched(event, watch) {
             Ok(_) => Ok(()),
@@ -59,7 +60,8 @@ impl Course {
         sender: Option<usize>,
         watch: &mut V,
     ) -> Outcome
-        ensures { HasTold result V.starts V.takes V.fails V.notes (Some (value_of self.old.site), watch.old) (Some (value_of self.new.site), watch.new) }
+        ensures done { OnOk result (HasDone (IsLie router arrival.entry) V.starts V.takes V.notes (Some (value_of self.old.site), watch.old) (Some (value_of self.new.site), watch.new)) }
+        ensures told { HasTold result V.starts V.takes V.fails V.notes (Some (value_of self.old.site), watch.old) (Some (value_of self.new.site), watch.new) }
     {
         let Site::Lied(running) = &mut self.site else {
             return Err(Stop::from(BadLine::BeforeStart));
@@ -74,7 +76,8 @@ impl Course {
     /// A wave is made: its ticks, and then its deliveries. What was sent before these is passed by from then on. It ends where a router or
     /// a datagram is not there, a regular update is not due, memory is out, or the observer fails; what was done stays done.
     pub fn make_wave<V: Watch>(&mut self, wave: &Wave<'_>, watch: &mut V) -> Outcome
-        ensures { HasTold result V.starts V.takes V.fails V.notes (Some (value_of self.old.site), watch.old) (Some (value_of self.new.site), watch.new) }
+        ensures done { OnOk result (HasDone (λ ts. (routers : ℕ) × IsWave (ticks_of wave.entry.now self.old.outages routers) wave.entry.now.moment ts) V.starts V.takes V.notes (Some (value_of self.old.site), watch.old) (Some (value_of self.new.site), watch.new)) }
+        ensures told { HasTold result V.starts V.takes V.fails V.notes (Some (value_of self.old.site), watch.old) (Some (value_of self.new.site), watch.new) }
     {
         let begin = self.sent();
         let first = wave.first(self.unheard, begin);
@@ -101,7 +104,8 @@ impl Course {
         events: &[Event<'static>],
         watch: &mut V,
     ) -> Outcome
-        ensures { HasTold result V.starts V.takes V.fails V.notes (Some (value_of self.old.site), watch.old) (Some (value_of self.new.site), watch.new) }
+        ensures done { OnOk result (HasDone (InTurn (IsPlayed (is_some advert.entry)) (map event_of events.now)) V.starts V.takes V.notes (Some (value_of self.old.site), watch.old) (Some (value_of self.new.site), watch.new)) }
+        ensures told { HasTold result V.starts V.takes V.fails V.notes (Some (value_of self.old.site), watch.old) (Some (value_of self.new.site), watch.new) }
     {
         for event in events {
             wave.check(self.site.running(), event)?;
@@ -118,7 +122,8 @@ impl Course {
         event: &Event<'static>,
         watch: &mut V,
     ) -> Outcome
-        ensures { HasTold result V.starts V.takes V.fails V.notes (Some (value_of self.old.site), watch.old) (Some (value_of self.new.site), watch.new) }
+        ensures done { OnOk result (HasDone (IsPlayed (is_some advert.entry) (event_of event.now)) V.starts V.takes V.notes (Some (value_of self.old.site), watch.old) (Some (value_of self.new.site), watch.new)) }
+        ensures told { HasTold result V.starts V.takes V.fails V.notes (Some (value_of self.old.site), watch.old) (Some (value_of self.new.site), watch.new) }
     {
         match advert {
             Some(advert) if advert.bytes.is_empty() => Ok(()),
@@ -158,6 +163,7 @@ impl Course {
     /// where a router is silent or a link is cut. The phases end where a router's regular update is not due in time, one is past the last
     /// moment, memory is out, or the observer fails; what was done stays done.
     pub fn make_phases<V: Watch>(&mut self, line: &Line<'_>, watch: &mut V) -> Outcome
+        ensures done { OnOk result (HasDone (EndsInPhases line.entry.now.count) V.starts V.takes V.notes (Some (value_of self.old.site), watch.old) (Some (value_of self.new.site), watch.new)) }
         ensures told { HasTold result V.starts V.takes V.fails V.notes (Some (value_of self.old.site), watch.old) (Some (value_of self.new.site), watch.new) }
         ensures all { OnOk result (AllTakePart self.old.outages) }
         ensures made { OnOk result (AreMadeAndCounted V.takes V.notes (value_of self.old.site, watch.old) line.entry.now.count (value_of self.new.site, watch.new)) }

@@ -2,15 +2,15 @@
 //! next, where routers are silent, links are cut and datagrams are lost. Outages hold back what `round`, `rounds`, `tell` and `hear`
 //! would do, and refuse `phases`. They hold back no event of one datagram or of one router. A lost datagram arrives nowhere.
 
-ghost use Rattle.std.specs.Prelude.{◌≡◌, false, true, IfOk, IsFalse, IsTrue, OnErr, OnOk, map};
-ghost use Rattle.ripngd_lab.specs.Common.{event_of, brings_lost, AllTakePart, addr_at, first_of, reaches, ticks_of, with_member};
+ghost use Rattle.std.specs.Prelude.{◌≡◌, All, false, true, IfOk, IsFalse, IsTrue, OnErr, OnOk, map};
+ghost use Rattle.ripngd_lab.specs.Common.{event_of, IsDelivery, brings_lost, AllTakePart, addr_at, first_of, reaches, ticks_of, with_member};
 
 use crate::context::number;
 use crate::{Course, Network, Outcome, Refusal, Stop};
 use prefix6::Addr6;
 use ripng_world::{Event, LabError, RoundsRefused, Running, Sent};
 use route_table::{Moment, RouteStore};
-use router_core::{Destination, INTERFACE_LIMIT};
+use router_core::Destination;
 use std::alloc::{AllocError, Global};
 
 /// What takes no part.
@@ -135,7 +135,9 @@ impl<'a> Wave<'a> {
 
     /// The deliveries of a datagram, in the order of routers and interfaces. The first datagram of the wave has the number
     /// `first`.
-    pub fn deliveries(&self, course: &Course, first: usize, datagram: usize) -> Events {
+    pub fn deliveries(&self, course: &Course, first: usize, datagram: usize) -> Events
+        ensures { IfOk result (λ events. All (IsDelivery self.now.moment) (map event_of events.items)) }
+    {
         let (lab, outages) = (course.site.running(), &course.outages);
         let (now, place) = (self.moment, datagram.saturating_sub(first));
         let mut lost = self.lost.split(' ');
@@ -143,16 +145,18 @@ impl<'a> Wave<'a> {
         let Some(sent) = lab.sent().get(datagram).filter(|_| !gone) else {
             return Ok(Vec::new(course.alloc));
         };
-        (0..lab.routers().saturating_mul(INTERFACE_LIMIT))
-            .map(|place| (place / INTERFACE_LIMIT, place % INTERFACE_LIMIT))
-            .filter(|(router, iface)| reaches(lab, outages, sent, *router, *iface))
-            .map(|(router, iface)| Event::Deliver {
-                datagram,
-                router,
-                iface,
-                now,
-            })
-            .collect(course.alloc)
+        let (mut events, receivers) = (Vec::new(course.alloc), lab.receivers(sent)?);
+        for &(router, iface) in &receivers {
+            if reaches(lab, outages, sent, router, iface) {
+                events.push(Event::Deliver {
+                    datagram,
+                    router,
+                    iface,
+                    now,
+                })?;
+            }
+        }
+        Ok(events)
     }
 }
 

@@ -1,7 +1,7 @@
 //! A script, line by line: its routers are listed until they start, and then live in a network.
 
-ghost use Rattle.std.specs.Prelude.{◌≡◌, ◌⊎◌, None, OnErr, OnOk, Option};
-ghost use Rattle.ripngd_lab.specs.Common.{Broken, LabValue, HasTold, IsToldOfLab, IsToldUntil, Prints, lab_in};
+ghost use Rattle.std.specs.Prelude.{◌≡◌, ◌⊎◌, ◌∷◌, [], ℕ, IfOk, IsErrAnd, List, None, OnErr, false, OnOk, Option, is_some, map, true};
+ghost use Rattle.ripngd_lab.specs.Common.{Broken, EndsScript, LabValue, HasDone, HasTold, HasWords, IsBlank, has_failed, is_failure, IsNote, IsLie, IsObeyed, IsOfScript, IsToldOfLab, IsToldUntil, Means, IsVerbOf, Prints, Says, Starts, arrival_by, awaited_by, lab_in, lines_of};
 
 use crate::course::check_named;
 use crate::forms::Verb;
@@ -12,7 +12,7 @@ use prefix6::{Addr6, Prefix};
 use ripng_world::{Lab, LabError, NetConfig, NetInterface, Node};
 use route_table::Moment;
 use router_core::Interface;
-use std::alloc::Global;
+use std::alloc::{AllocError, Global};
 use std::io::{self, Write};
 use std::{mem, str};
 
@@ -34,15 +34,16 @@ pub fn lab<W: Write>(alloc: Global, script: &[u8], out: &mut W) -> io::Result<bo
 /// # Errors
 /// `OutOfMemory` if memory ran out, else the error of the observer. Earlier notifications stay as they are.
 pub fn watched<V: Watch>(alloc: Global, script: &[u8], watch: &mut V) -> io::Result<bool>
+    ensures said { IfOk result (λ done. (end : Option LabValue) × HasDone (IsOfScript script.now done) V.starts V.takes V.notes (None, watch.old) (end, watch.new)) }
     ensures told { OnOk result ((end : Option LabValue) × IsToldOfLab V.starts V.takes V.notes (None, watch.old) (end, watch.new)) }
     ensures told_until { OnErr result ((end : Option LabValue) × IsToldUntil V.starts V.takes V.fails V.notes (None, watch.old) (end, watch.new)) }
 {
     let mut session = Session::new(alloc);
-    let lines: Vec<&[u8]> = script.split(|byte| *byte == b'\n').collect(alloc)?;
-    for (place, line) in lines.iter().enumerate() {
+    let lines = lines_of(alloc, script)?;
+    for place in 0..lines.len() {
         let number = place.saturating_add(1);
         watch.at_line(number);
-        match run_line(alloc, &mut session, line, watch) {
+        match run_line(alloc, &mut session, lines[place], watch) {
             Ok(()) => {}
             Err(Stop::Refused(refusal)) => {
                 watch.noticed(Notice::Refused(session.ending(number, refusal)))?;
@@ -58,8 +59,24 @@ pub fn watched<V: Watch>(alloc: Global, script: &[u8], watch: &mut V) -> io::Res
     session.end(watch)
 }
 
+/// The lines of a script, in order.
+fn lines_of(alloc: Global, script: &[u8]) -> Result<Vec<&[u8]>, AllocError>
+    ensures { IfOk result (λ lines. map (λ line. line.now) lines.items ≡ lines_of script.now) }
+{
+    script.split(|byte| *byte == b'\n').collect(alloc)
+}
+
+/// Whether a line says nothing: it is empty but for white space, or a remark, of any bytes.
+fn is_blank(line: &[u8]) -> bool
+    ensures { result ≡ true → IsBlank line.now }
+{
+    matches!(line.trim_ascii_start().first(), None | Some(b'#'))
+}
+
 /// The words of a line, without the blanks around them and without a remark; of `say` all but a carriage return at its end.
-fn words_of(text: &str) -> &str {
+fn words_of(text: &str) -> &str
+    ensures { HasWords text.now result.now }
+{
     let text = text.trim_ascii_start();
     match text.split_once(" #") {
         _ if text.starts_with("say ") => text.trim_end_matches('\r'),
@@ -76,20 +93,33 @@ pub fn words_in(line: &[u8]) -> &str {
 
 /// Does what a line says. A line that has to be refused by a name (`refused NAME`) is done exactly if it is refused by that name.
 fn run_line<V: Watch>(alloc: Global, session: &mut Session, line: &[u8], watch: &mut V) -> Outcome
-    ensures { HasTold result V.starts V.takes V.fails V.notes (lab_in session.old.course, watch.old) (lab_in session.new.course, watch.new) }
+    ensures done { OnOk result (HasDone (λ ts. Says (is_some session.old.awaited) line.now ts (is_some session.new.awaited)) V.starts V.takes V.notes (lab_in session.old.course, watch.old) (lab_in session.new.course, watch.new)) }
+    ensures told { HasTold result V.starts V.takes V.fails V.notes (lab_in session.old.course, watch.old) (lab_in session.new.course, watch.new) }
 {
-    if line.starts_with(b"#") {
+    if is_blank(line) {
         return Ok(());
     }
-    let words = words_of(str::from_utf8(line).map_err(|_| BadLine::NoText)?);
-    if words.is_empty() {
-        return Ok(());
+    let Ok(text) = str::from_utf8(line) else {
+        return Err(Stop::from(BadLine::NoText));
+    };
+    let awaited = session.awaited.take();
+    let outcome = session.obey(alloc, words_of(text), watch);
+    match awaited {
+        Some(name) => as_awaited(name, outcome),
+        None => outcome,
     }
-    match (session.awaited.take(), session.obey(alloc, words, watch)) {
-        (Some(name), Ok(())) => Err(Stop::Unmet(Unmet::Refusal(name, None))),
-        (Some(name), Err(Stop::Refused(why))) if why.is_named(name.word()) => Ok(()),
-        (Some(name), Err(Stop::Refused(why))) => Err(Stop::Unmet(Unmet::Refusal(name, Some(why)))),
-        (_, outcome) => outcome,
+}
+
+/// The outcome of a line that is to be refused by a name: done if it is so refused, unmet if it is done or refused by another.
+fn as_awaited(name: RefusalName, outcome: Outcome) -> Outcome
+    ensures refused { OnOk result (IsErrAnd outcome (λ stop. is_failure stop ≡ false)) }
+    ensures failed { has_failed result ≡ has_failed outcome }
+{
+    match outcome {
+        Ok(()) => Err(Stop::Unmet(Unmet::Refusal(name, None))),
+        Err(Stop::Refused(why)) if why.is_named(name.word()) => Ok(()),
+        Err(Stop::Refused(why)) => Err(Stop::Unmet(Unmet::Refusal(name, Some(why)))),
+        Err(stop) => Err(stop),
     }
 }
 
@@ -109,7 +139,8 @@ pub struct Session {
 impl Session {
     /// Nothing is listed yet.
     pub fn new(alloc: Global) -> Session
-        ensures { lab_in result.course ≡ None }
+        ensures unstarted { lab_in result.course ≡ None }
+        ensures unawaited { result.awaited ≡ None }
     {
         Session {
             nodes: Vec::new(alloc),
@@ -120,7 +151,9 @@ impl Session {
     }
 
     fn read<'a>(&mut self, words: &'a str) -> Result<Line<'a>, BadLine>
-        ensures { self.new.course ≡ self.old.course }
+        ensures verb { IfOk result (λ line. IsVerbOf line.verb words.now) }
+        ensures course { self.new.course ≡ self.old.course }
+        ensures awaited { self.new.awaited ≡ self.old.awaited }
     {
         if let Some(course) = &self.course {
             self.context.sent = course.sent();
@@ -144,6 +177,7 @@ impl Session {
 
     /// The script has no more lines, and answers whether that may be: no line is still to be refused.
     fn end<V: Watch>(&self, watch: &mut V) -> io::Result<bool>
+        ensures ended { IfOk result (λ done. EndsScript done (is_some self.now.awaited) V.notes watch.old watch.new) }
         ensures noted { OnOk result ((watch.new ≡ watch.old) ⊎ V.notes watch.old Prints watch.new) }
         ensures broken { OnErr result (V.notes watch.old Broken watch.new) }
     {
@@ -156,17 +190,29 @@ impl Session {
 
     /// Does what the words of the next line say.
     pub fn obey<V: Watch>(&mut self, alloc: Global, words: &str, watch: &mut V) -> Outcome
-        ensures { HasTold result V.starts V.takes V.fails V.notes (lab_in self.old.course, watch.old) (lab_in self.new.course, watch.new) }
+        ensures done { OnOk result (HasDone (λ ts. IsObeyed words.now self.old.awaited ts self.new.awaited) V.starts V.takes V.notes (lab_in self.old.course, watch.old) (lab_in self.new.course, watch.new)) }
+        ensures awaited { OnErr result (self.new.awaited ≡ self.old.awaited) }
+        ensures told { HasTold result V.starts V.takes V.fails V.notes (lab_in self.old.course, watch.old) (lab_in self.new.course, watch.new) }
     {
         let line = match self.read(words) {
             Ok(line) => line,
             Err(bad) => return Err(Stop::from(bad)),
         };
+        self.carry_out(alloc, &line, watch)
+    }
+
+    /// Does what a line says.
+    fn carry_out<V: Watch>(&mut self, alloc: Global, line: &Line<'_>, watch: &mut V) -> Outcome
+        ensures done { OnOk result (HasDone (Means line.entry.now) V.starts V.takes V.notes (lab_in self.old.course, watch.old) (lab_in self.new.course, watch.new)) }
+        ensures awaited { OnOk result (self.new.awaited ≡ awaited_by line.entry.now.verb line.entry.now.refusal self.old.awaited) }
+        ensures err { OnErr result (self.new.awaited ≡ self.old.awaited) }
+        ensures told { HasTold result V.starts V.takes V.fails V.notes (lab_in self.old.course, watch.old) (lab_in self.new.course, watch.new) }
+    {
         match line.verb {
-            Verb::Router(_) | Verb::Interface | Verb::Prefixes => self.list(alloc, &line),
+            Verb::Router(_) | Verb::Interface | Verb::Prefixes => self.list(alloc, line),
             Verb::Start => self.start(alloc, line.now, watch),
-            Verb::Forge => self.deceive(alloc, &line, watch),
-            Verb::Bend => self.bend(&line, watch),
+            Verb::Forge => self.deceive(alloc, line, watch),
+            Verb::Bend => self.bend(line, watch),
             Verb::Await => {
                 let _ = self.running()?;
                 self.awaited = line.refusal;
@@ -174,13 +220,14 @@ impl Session {
             }
             Verb::Act(action) => {
                 let course = self.course.as_mut().ok_or(BadLine::BeforeStart)?;
-                course.act(action, &line, watch)
+                course.act(action, line, watch)
             }
         }
     }
 
     fn list(&mut self, alloc: Global, line: &Line<'_>) -> Outcome
-        ensures { self.new.course ≡ self.old.course }
+        ensures course { self.new.course ≡ self.old.course }
+        ensures awaited { self.new.awaited ≡ self.old.awaited }
     {
         if self.course.is_some() {
             return Err(Stop::from(BadLine::AfterStart));
@@ -193,7 +240,9 @@ impl Session {
 
     /// A network is checked, and its routers start at one time, which the observer is notified of.
     fn start<V: Watch>(&mut self, alloc: Global, now: Moment, watch: &mut V) -> Outcome
-        ensures { HasTold result V.starts V.takes V.fails V.notes (lab_in self.old.course, watch.old) (lab_in self.new.course, watch.new) }
+        ensures done { OnOk result (HasDone (λ ts. ts ≡ Starts now ∷ []) V.starts V.takes V.notes (lab_in self.old.course, watch.old) (lab_in self.new.course, watch.new)) }
+        ensures awaited { self.new.awaited ≡ self.old.awaited }
+        ensures told { HasTold result V.starts V.takes V.fails V.notes (lab_in self.old.course, watch.old) (lab_in self.new.course, watch.new) }
     {
         if self.course.is_some() {
             return Err(Stop::from(BadLine::SecondStart));
@@ -209,7 +258,9 @@ impl Session {
 
     /// A forged Response arrives. If it is refused, the network stays verified.
     fn deceive<V: Watch>(&mut self, alloc: Global, line: &Line<'_>, watch: &mut V) -> Outcome
-        ensures { HasTold result V.starts V.takes V.fails V.notes (lab_in self.old.course, watch.old) (lab_in self.new.course, watch.new) }
+        ensures done { OnOk result (HasDone (λ ts. (bytes : List ℕ) × IsLie line.entry.now.router (arrival_by line.entry.now bytes) ts) V.starts V.takes V.notes (lab_in self.old.course, watch.old) (lab_in self.new.course, watch.new)) }
+        ensures awaited { self.new.awaited ≡ self.old.awaited }
+        ensures told { HasTold result V.starts V.takes V.fails V.notes (lab_in self.old.course, watch.old) (lab_in self.new.course, watch.new) }
     {
         let bytes = line.bytes(alloc)?;
         let arrival = line.arrival(&bytes);
@@ -221,7 +272,9 @@ impl Session {
 
     /// A router has another horizon from now on, and the network is verified no longer.
     fn bend<V: Watch>(&mut self, line: &Line<'_>, watch: &mut V) -> Outcome
-        ensures { HasTold result V.starts V.takes V.fails V.notes (lab_in self.old.course, watch.old) (lab_in self.new.course, watch.new) }
+        ensures done { OnOk result (HasDone (IsNote) V.starts V.takes V.notes (lab_in self.old.course, watch.old) (lab_in self.new.course, watch.new)) }
+        ensures awaited { self.new.awaited ≡ self.old.awaited }
+        ensures told { HasTold result V.starts V.takes V.fails V.notes (lab_in self.old.course, watch.old) (lab_in self.new.course, watch.new) }
     {
         let routers = self.running()?.routers();
         check_named(Some(line.router), routers, LabError::NoSuchRouter)?;
@@ -238,7 +291,8 @@ impl Session {
 
     /// The network is verified no longer.
     fn give_up(&mut self)
-        ensures { lab_in self.new.course ≡ lab_in self.old.course }
+        ensures awaited { self.new.awaited ≡ self.old.awaited }
+        ensures course { lab_in self.new.course ≡ lab_in self.old.course }
     {
         if let Some(mut course) = self.course.take() {
             course.site = course.site.lied();
@@ -257,7 +311,12 @@ pub fn list(alloc: Global, nodes: &mut Vec<Node>, line: &Line<'_>) -> Outcome {
         })?),
         Verb::Interface => {
             let (addr, cost, mtu, link) = (line.addr, line.cost, line.mtu, line.link);
-            let interface = Interface { addr, cost, mtu };
+            let interface = Interface {
+                addr,
+                cost,
+                mtu,
+                zone: 0,
+            };
             let interface = NetInterface { interface, link };
             let node = nodes.last_mut().ok_or(BadLine::NoRouter)?;
             Ok(node.interfaces.push(interface)?)

@@ -1,5 +1,5 @@
 -- Who reads the lines of a trace has each router's table after each.
-use Rattle.std.proofs.Common.{◌≡◌, ◌⊎◌, inl, inr, ℕ, Bool, true, false, refl, ap, sym, subst, subst₂, ◌∙◌, List, [], ◌∷◌, ◌++◌, map, Option, None, Some, IfSome, OnErr, OnOk, Result, Ok, Err, option_map, get_or, slice_get, slice_set}
+use Rattle.std.proofs.Common.{◌≡◌, ◌⊎◌, inl, inr, ℕ, Bool, true, false, refl, ap, sym, subst, subst₂, ◌∙◌, List, [], ◌∷◌, ◌++◌, map, Option, None, Some, IfOk, IfSome, OnErr, OnOk, Result, Ok, Err, option_map, get_or, slice_get, slice_set}
 use Rattle.std.specs.FinMap as map_of
 use Rattle.std.proofs.lemmas.List.{map-set}
 use Rattle.route_table.specs.Table.{Table}
@@ -15,7 +15,8 @@ use Rattle.ripngd_lab.specs.Asides.{Aside, NextLine, Prints, CountsPhases, Lie, 
 use Rattle.ripngd_lab.specs.ScriptWatching.{Telling, Starts, Does, Turns, Notes, Counts, Deceives, TellsAll, FailsAtRest, FailsAtEvent, FailsAtLie, IsToldUntil, StartsAt}
 use Rattle.ripngd_trace.specs.Events.{RecordTells}
 use Rattle.ripngd_trace.specs.Offers.{TellsOffers}
-use Rattle.ripngd_trace.specs.Reading.{AreWritten, IsTracedUntil, IsWritten, Line, StartLine, EventLine, AsideLine, Explains, HasWord, TellsMove, TellsOf, TellsScript, known_in, known_of, read_line, tables_in, tables_of}
+use Rattle.ripngd_trace.specs.Scripts.{AreRecordsOf}
+use Rattle.ripngd_trace.specs.Reading.{AreWritten, IsTraced, IsTracedUntil, IsWritten, Line, StartLine, EventLine, AsideLine, Explains, HasWord, TellsMove, TellsOf, TellsScript, known_in, known_of, read_line, tables_in, tables_of}
 use Rattle.ripngd_trace.specs.Records.{LeadsTo, known_as, taken_out, with_routes}
 use Rattle.ripngd_trace.specs.Saying.{BreaksOff, EventIsTold, IsPrinted, Knows, Said, SaysAlone, SaysAside, SaysEvent, SaysMove, SaysStart}
 use Rattle.ripngd_trace.specs.Starting.{TellsStart}
@@ -48,6 +49,22 @@ of_some {X} o x P is h = subst (λ (p : Option X). IfSome p P) is h
 pub on_ok : {X E P Q : Type 0} (r : Result X E) → OnOk r P → (P → Q) → OnOk r Q
 on_ok (Ok x) p leads = leads p
 on_ok (Err e) p leads = tt
+
+-- what holds of an answer, with the answer by its name
+pub with_answer : {X E : Type 0} (P : X → Type 0) (r : Result X E) → IfOk r P → OnOk r ((x : X) × (r ≡ Ok x) × P x)
+with_answer P (Ok x) p = (x, refl, p)
+with_answer P (Err e) p = tt
+
+abbrev of_answer : {X E : Type 0} → X → Result X E → X
+of_answer d (Ok x) = x
+of_answer d (Err e) = d
+
+no_answer : {X E : Type 0} (x : X) (e : E) → Err e ≡ Ok x → ⊥
+no_answer x e is = cc
+
+pub answered : {X E : Type 0} (P : X → Type 0) (r : Result X E) (x : X) → r ≡ Ok x → OnOk r ((y : X) × (r ≡ Ok y) × P y) → P x
+answered P (Ok z) x is p = subst P (sym (ap (of_answer x) p.1) ∙ ap (of_answer x) is) p.2
+answered P (Err e) x is p = absurd (no_answer x e is)
 
 pub on_any : {X E P : Type 0} (r : Result X E) → P → OnErr r P
 on_any (Ok x) p = tt
@@ -128,43 +145,49 @@ printed_words (action.Makes made) is = tt
 printed_words (action.Ends how why hint) is = tt
 
 -- what is left to be read
-abbrev pub LinesFrom : Option LabValue → List Table → Said → Option LabValue → Said → Type 0
-LinesFrom lab shown said end said' = (lines : List Line) × TellsScript lab shown lines end × AreWritten lines said.written said'.written
+abbrev pub LinesFrom : Option LabValue → List Table → Said → List Telling → Option LabValue → Said → Type 0
+LinesFrom lab shown said ts end said' =
+    (lines : List Line) × TellsScript lab shown lines end × AreWritten lines said.written said'.written × AreRecordsOf said.known.line ts lines
 
-module _ (lab mid end : Option LabValue) (shown : List Table) (said said1 said' : Said) where
+module _ (lab mid end : Option LabValue) (shown : List Table) (said said1 said' : Said) (t : Telling) (ts : List Telling) where
   line_on : (line : Line) → TellsOf line lab mid → (read_line shown line ≡ tables_in mid) → IsWritten line said.written said1.written
-      → LinesFrom mid (read_line shown line) said1 end said' → LinesFrom lab shown said end said'
-  line_on line tells shows writes rest = (line ∷ rest.0, (mid, tells, shows, rest.1), (said1.written, writes, rest.2))
+      → ((lines : List Line) → AreRecordsOf said1.known.line ts lines → AreRecordsOf said.known.line (t ∷ ts) (line ∷ lines))
+      → LinesFrom mid (read_line shown line) said1 ts end said' → LinesFrom lab shown said (t ∷ ts) end said'
+  line_on line tells shows writes joins rest = (line ∷ rest.0, (mid, tells, shows, rest.1), (said1.written, writes, rest.2), joins rest.0 rest.3)
 
   -- no line
-  none_on : mid ≡ lab → said1.written ≡ said.written → LinesFrom mid shown said1 end said' → LinesFrom lab shown said end said'
-  none_on same unwritten rest = (
+  none_on : mid ≡ lab → said1.written ≡ said.written → ((lines : List Line) → AreRecordsOf said1.known.line ts lines → AreRecordsOf said.known.line (t ∷ ts) lines)
+      → LinesFrom mid shown said1 ts end said' → LinesFrom lab shown said (t ∷ ts) end said'
+  none_on same unwritten joins rest = (
     rest.0,
     subst (λ (l : Option LabValue). TellsScript l shown rest.0 end) same rest.1,
     subst (λ (o : Option (List ℕ)). AreWritten rest.0 o said'.written) unwritten rest.2,
+    joins rest.0 rest.3,
   )
 
   -- what a line does beside events
   aside_on : (a : Action) → HasWord a → mid ≡ lab → said.known.routers ≡ known_in lab → shown ≡ tables_in lab → SaysAlone a said said1
-      → (shown ≡ tables_in mid → said1.known.routers ≡ known_in mid → LinesFrom mid shown said1 end said')
-      → LinesFrom lab shown said end said'
-  aside_on a worded same known shows says rest =
+      → ((lines : List Line) → AreRecordsOf said1.known.line ts lines → AreRecordsOf said.known.line (t ∷ ts) (AsideLine (record { line = said.known.line; action = a }) ∷ lines))
+      → (shown ≡ tables_in mid → said1.known.routers ≡ known_in mid → LinesFrom mid shown said1 ts end said')
+      → LinesFrom lab shown said (t ∷ ts) end said'
+  aside_on a worded same known shows says joins rest =
       let shows1 : shown ≡ tables_in mid = shows ∙ sym (ap tables_in same) in
-      line_on (AsideLine (record { line = said.known.line; action = a })) (same, worded) shows1 says.writes
+      line_on (AsideLine (record { line = said.known.line; action = a })) (same, worded) shows1 says.writes joins
       (rest shows1 (ap (λ (k : Knows). k.routers) says.known_is ∙ known ∙ sym (ap known_in same)))
 
   -- an event, or a lie
   move_on : (is_forged : Bool) (l l1 : LabValue) → lab ≡ Some l → mid ≡ Some l1 → (e : Event) (answer : Answer) (what : Happening) → RouterMoves l.world (router_of e) what answer l1.world
       → said.known.routers ≡ known_of l.world → shown ≡ tables_in lab
       → (says : SaysMove is_forged said (telling l.network l.world e answer l1.world) said1) → TellsMove is_forged l l1 says.0
+      → ((lines : List Line) → AreRecordsOf said1.known.line ts lines → AreRecordsOf said.known.line (t ∷ ts) (EventLine is_forged says.0 ∷ lines))
       → ((read_line shown (EventLine is_forged says.0) ≡ tables_in mid) → said1.known.routers ≡ known_in mid
-      → LinesFrom mid (read_line shown (EventLine is_forged says.0)) said1 end said')
-      → LinesFrom lab shown said end said'
-  move_on is_forged l l1 before after e answer what move is shows says tells rest =
+      → LinesFrom mid (read_line shown (EventLine is_forged says.0)) said1 ts end said')
+      → LinesFrom lab shown said (t ∷ ts) end said'
+  move_on is_forged l l1 before after e answer what move is shows says tells joins rest =
       let r = says.0 in
       let shows1 : read_line shown (EventLine is_forged r) ≡ tables_in mid =
       shown_after is_forged l l1 e answer what move said.known said1.known is r says.1 shown (shows ∙ ap tables_in before) ∙ sym (ap tables_in after) in
-      line_on (EventLine is_forged r) (l, before, l1, after, tells) shows1 says.2
+      line_on (EventLine is_forged r) (l, before, l1, after, tells) shows1 says.2 joins
       (rest shows1 (known_after is_forged l l1 e answer what move said.known said1.known is r says.1 ∙ sym (ap known_in after)))
 
 -- ---- a script, as one is told of it who makes of each telling what the tracer makes of it
@@ -173,9 +196,9 @@ module _ {V : Type 0} (f : V → Said) (st : V → LabValue → ℕ → V → Ty
     (starts : (a : V) (lab : LabValue) (now : ℕ) (b : V) → st a lab now b → SaysStart (f a) lab now (f b)) (takes : (a : V) (what : Told) (b : V) → t a what b → SaysEvent (f a) what (f b))
     (fails : (a : V) (what : Told) (b : V) → fl a what b → BreaksOff (f a) what (f b)) (notes : (a : V) (what : Aside) (b : V) → n a what b → SaysAside (f a) what (f b)) where
   pub lines_told : (ts : List Telling) (lab : Option LabValue) (v : V) (end : Option LabValue) (v' : V) (shown : List Table)
-      → shown ≡ tables_in lab → (f v).known.routers ≡ known_in lab → TellsAll st t n (lab, v) ts (end, v') → LinesFrom lab shown (f v) end (f v')
+      → shown ≡ tables_in lab → (f v).known.routers ≡ known_in lab → TellsAll st t n (lab, v) ts (end, v') → LinesFrom lab shown (f v) ts end (f v')
   lines_told [] lab v end v' shown shows known same =
-      ([], ap (λ (s : Option LabValue × V). s.0) same, ap (λ (s : Option LabValue × V). (f s.1).written) same)
+      ([], ap (λ (s : Option LabValue × V). s.0) same, ap (λ (s : Option LabValue × V). (f s.1).written) same, refl)
   lines_told (Starts now ∷ ts) lab v end v' shown shows known told =
       let mid = told.0 in
       let begins = told.1 in
@@ -187,9 +210,10 @@ module _ {V : Type 0} (f : V → Said) (st : V → LabValue → ℕ → V → Ty
       started r.routers.items l.world.states routers.as_many (λ k r is. ((routers.each k r is).state, (routers.each k r is).state_is, (routers.each k r is).routes_lead)) ∙ sym (ap tables_in begins.2) in
       let known1 : (f mid.1).known.routers ≡ known_in mid.0 =
       says.1.routers_are ∙ ap (λ (ks : List KnownRouter). ks ++ known_of l.world) (known ∙ ap known_in begins.0) ∙ sym (ap known_in begins.2) in
-      line_on lab mid.0 end shown (f v) (f mid.1) (f v') (StartLine r)
+      line_on lab mid.0 end shown (f v) (f mid.1) (f v') (Starts now) ts (StartLine r)
       (begins.0, l, begins.2, subst (StartsAt l) (sym says.1.tells.moment_is) begins.3, started_itself (f v).known.line l now r says.1.tells)
-      shows1 says.2 (lines_told ts mid.0 mid.1 end v' (read_line shown (StartLine r)) shows1 known1 told.2)
+      shows1 says.2 (λ lines rest. ((says.1.tells.at_line, says.1.tells.moment_is), subst (λ (k : ℕ). AreRecordsOf k ts lines) says.1.line_is rest))
+      (lines_told ts mid.0 mid.1 end v' (read_line shown (StartLine r)) shows1 known1 told.2)
   lines_told (Does e answer ∷ ts) lab v end v' shown shows known told =
       let mid = told.0 in
       let done = told.1 in
@@ -199,30 +223,34 @@ module _ {V : Type 0} (f : V → Said) (st : V → LabValue → ℕ → V → Ty
       let says : SaysEvent (f v) what (f mid.1) = takes v what mid.1 done.6 in
       let move = moved l.network l.world e answer l1.world done.5 in
       let known0 : (f v).known.routers ≡ known_of l.world = known ∙ ap known_in done.1 in
-      move_on lab mid.0 end shown (f v) (f mid.1) (f v') false l l1 done.1 done.3 e answer move.0 move.1 known0 shows says (
+      move_on lab mid.0 end shown (f v) (f mid.1) (f v') (Does e answer) ts false l l1 done.1 done.3 e answer move.0 move.1 known0 shows says (
         e,
         answer,
         (done.4, done.5),
         told_itself false (f v).known.line what says.0 says.1.tells,
         explains l.network l.world e answer l1.world done.5 (f v).known (f mid.1).known known0 says.0 says.1 l l1 refl (ap (λ (n : Network). record { network = n; world = l1.world }) (sym done.4)),
       )
+      (λ lines rest. ((says.1.tells.at_line, says.1.tells.event_is), subst (λ (k : ℕ). AreRecordsOf k ts lines) says.1.line_is rest))
       (λ shows1 known1. lines_told ts mid.0 mid.1 end v' (read_line shown (EventLine false says.0)) shows1 known1 told.2)
   lines_told (Turns number ∷ ts) lab v end v' shown shows known told =
       let mid = told.0 in
       let turns = told.1 in
       let turned : SaysAside (f v) (NextLine number) (f mid.1) = notes v (NextLine number) mid.1 turns.1 in
-      none_on lab mid.0 end shown (f v) (f mid.1) (f v') turns.0 (ap (λ (s : Said). s.written) turned)
+      none_on lab mid.0 end shown (f v) (f mid.1) (f v') (Turns number) ts turns.0 (ap (λ (s : Said). s.written) turned)
+      (λ lines rest. subst (λ (k : ℕ). AreRecordsOf k ts lines) (ap (λ (s : Said). s.known.line) turned) rest)
       (lines_told ts mid.0 mid.1 end v' shown (shows ∙ sym (ap tables_in turns.0))
       (ap (λ (s : Said). s.known.routers) turned ∙ known ∙ sym (ap known_in turns.0)) told.2)
   lines_told (Notes ∷ ts) lab v end v' shown shows known told =
       let mid = told.0 in
       let says : SaysAside (f v) Prints (f mid.1) = notes v Prints mid.1 told.1.1 in
-      aside_on lab mid.0 end shown (f v) (f mid.1) (f v') says.0 (printed_words says.0 says.1) told.1.0 known shows says.2
+      aside_on lab mid.0 end shown (f v) (f mid.1) (f v') Notes ts says.0 (printed_words says.0 says.1) told.1.0 known shows says.2
+      (λ lines rest. (refl, subst (λ (k : ℕ). AreRecordsOf k ts lines) (ap (λ (k : Knows). k.line) says.2.known_is) rest))
       (λ shows1 known1. lines_told ts mid.0 mid.1 end v' shown shows1 known1 told.2)
   lines_told (Counts phases last ∷ ts) lab v end v' shown shows known told =
       let mid = told.0 in
       let says : SaysAside (f v) (CountsPhases phases last) (f mid.1) = notes v (CountsPhases phases last) mid.1 told.1.1 in
-      aside_on lab mid.0 end shown (f v) (f mid.1) (f v') (action.Makes (record { phases = phases; last = last })) tt told.1.0 known shows says
+      aside_on lab mid.0 end shown (f v) (f mid.1) (f v') (Counts phases last) ts (action.Makes (record { phases = phases; last = last })) tt told.1.0 known shows says
+      (λ lines rest. ((refl, refl), subst (λ (k : ℕ). AreRecordsOf k ts lines) (ap (λ (k : Knows). k.line) says.known_is) rest))
       (λ shows1 known1. lines_told ts mid.0 mid.1 end v' shown shows1 known1 told.2)
   lines_told (Deceives router x answer ∷ ts) lab v end v' shown shows known told =
       let mid = told.0 in
@@ -231,8 +259,9 @@ module _ {V : Type 0} (f : V → Said) (st : V → LabValue → ℕ → V → Ty
       let l1 = lied.2 in
       let what = telling l.network l.world (Stranger router x) answer l1.world in
       let says : SaysMove true (f v) what (f mid.1) = notes v (Lie what) mid.1 lied.6 in
-      move_on lab mid.0 end shown (f v) (f mid.1) (f v') true l l1 lied.1 lied.3 (Stranger router x) answer (Arrives x) lied.5.moves (known ∙ ap known_in lied.1) shows says
+      move_on lab mid.0 end shown (f v) (f mid.1) (f v') (Deceives router x answer) ts true l l1 lied.1 lied.3 (Stranger router x) answer (Arrives x) lied.5.moves (known ∙ ap known_in lied.1) shows says
       (router, x, answer, lied.4, lied.5, told_itself true (f v).known.line what says.0 says.1.tells)
+      (λ lines rest. ((says.1.tells.at_line, says.1.tells.event_is), subst (λ (k : ℕ). AreRecordsOf k ts lines) says.1.line_is rest))
       (λ shows1 known1. lines_told ts mid.0 mid.1 end v' (read_line shown (EventLine true says.0)) shows1 known1 told.2)
 
   -- up to where memory or the tracer failed
@@ -240,8 +269,8 @@ module _ {V : Type 0} (f : V → Said) (st : V → LabValue → ℕ → V → Ty
       → IsTracedUntil (f v).written end (f v').written
   until_told v end v' known until = by_why until.2
     where
-      traced : LinesFrom None [] (f v) until.0.0 (f until.0.1)
-      traced = lines_told until.1.0 None v until.0.0 until.0.1 [] refl known until.1.1
+      traced : IsTraced (f v).written until.0.0 (f until.0.1).written
+      traced = let all = lines_told until.1.0 None v until.0.0 until.0.1 [] refl known until.1.1 in (all.0, all.1, all.2)
 
       by_why : FailsAtRest n until.0 (end, v') ⊎ (FailsAtEvent fl until.0 (end, v') ⊎ FailsAtLie n until.0 (end, v')) → IsTracedUntil (f v).written end (f v').written
       by_why (inl (same, inl unsaid)) = (until.0.0, (f until.0.1).written, traced, inl same, inl (ap (λ (x : V). (f x).written) unsaid))

@@ -13,6 +13,7 @@ pub use Rattle.ripngd_trace.specs.Offers.{TellsOffers, is_noted, offer_records, 
 pub use Rattle.ripngd_trace.specs.Reading.{IsTraced, IsTracedUntil}
 pub use Rattle.ripngd_trace.specs.Records.{LeadsTo, known_as, taken_out, timers_in, with_routes}
 pub use Rattle.ripngd_trace.specs.Saying.{EventIsTold, StartIsTold, knows, BreaksOff, Said, SameOutput, SaysAlone, SaysAside, SaysEvent, SaysMove, SaysStart, said_by}
+pub use Rattle.ripngd_trace.specs.Scripts.{IsScriptTraced}
 pub use Rattle.ripngd_trace.specs.Starting.{TellsRouter}
 pub use Rattle.ripngd_trace.specs.Updates.{TellsUpdate}
 pub use Rattle.ripngd_trace.specs.Below.{event_of, Prefix6, moment_of, LabValue, Broken, Appends, Json, boolean, member, no_members, object, string, json_tokens}

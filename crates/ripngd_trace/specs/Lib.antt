@@ -8,5 +8,6 @@ pub mod Offers
 pub mod Reading
 pub mod Records
 pub mod Saying
+pub mod Scripts
 pub mod Starting
 pub mod Updates

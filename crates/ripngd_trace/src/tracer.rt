@@ -1,7 +1,7 @@
 //! A script, traced or explained: one observer, which writes a record of each thing that happens.
 
-ghost use Rattle.std.specs.Prelude.{◌≡◌, [], None, OnErr, OnOk, Option};
-ghost use Rattle.ripngd_trace.specs.Common.{event_of, LabValue, Broken, IsToldOfLab, IsToldUntil, written_as, IsTraced, IsTracedUntil, BreaksOff, Said, SameOutput, SaysAlone, SaysAside, SaysEvent, SaysMove, SaysStart, said_by};
+ghost use Rattle.std.specs.Prelude.{◌≡◌, [], Bool, None, Ok, OnErr, OnOk, Option};
+ghost use Rattle.ripngd_trace.specs.Common.{event_of, LabValue, Broken, IsToldOfLab, IsToldUntil, written_as, IsScriptTraced, IsTraced, IsTracedUntil, BreaksOff, Said, SameOutput, SaysAlone, SaysAside, SaysEvent, SaysMove, SaysStart, said_by};
 
 use crate::known::Known;
 use crate::records::{Action, AsideRecord};
@@ -23,7 +23,7 @@ use std::str;
 /// # Errors
 /// `OutOfMemory` where memory ran out, else the error of `out`. Earlier records were written, and less than one more.
 pub fn trace<W: Write>(alloc: Global, script: &[u8], out: &mut W) -> io::Result<bool>
-    ensures traced { OnOk result ((lab : Option LabValue) × IsTraced (W.contents out.old) lab (W.contents out.new)) }
+    ensures traced { OnOk result ((done : Bool) × (result ≡ Ok done) × (lab : Option LabValue) × IsScriptTraced script.now done (W.contents out.old) lab (W.contents out.new)) }
     ensures traced_until { OnErr result ((lab : Option LabValue) × IsTracedUntil (W.contents out.old) lab (W.contents out.new)) }
 {
     observed(alloc, script, Form::Json, false, out)
@@ -52,7 +52,7 @@ fn observed<W: Write>(
     changes_only: bool,
     out: &mut W,
 ) -> io::Result<bool>
-    ensures traced { OnOk result ((lab : Option LabValue) × IsTraced (written_as form (W.contents out.old)) lab (written_as form (W.contents out.new))) }
+    ensures traced { OnOk result ((done : Bool) × (result ≡ Ok done) × (lab : Option LabValue) × IsScriptTraced script.now done (written_as form (W.contents out.old)) lab (written_as form (W.contents out.new))) }
     ensures traced_until { OnErr result ((lab : Option LabValue) × IsTracedUntil (written_as form (W.contents out.old)) lab (written_as form (W.contents out.new))) }
 {
     let names = names_of(alloc, script)?;

@@ -1,6 +1,10 @@
-use Rattle.std.proofs.Common.{None}
-use Rattle.ripngd_lab.specs.ScriptWatching.{IsToldOfLab, lab_in}
+use Rattle.std.proofs.Common.{None, false, is_some, take}
+use Rattle.ripngd_lab.specs.Doing.{HasDone}
+use Rattle.ripngd_lab.specs.Scripts.{AreSaid, numbered}
+use Rattle.ripngd_lab.specs.ScriptWatching.{lab_in}
 use Rattle.ripngd_lab.proofs.script.watched.Given as goal
 
+-- the lines so far are done
 abbrev pub invariant-loop-place : goal.invariant-loop-place
-invariant-loop-place g l = IsToldOfLab g.V.Watch.starts g.V.Observer.takes g.V.Watch.notes (None, l.fn.watch) (lab_in l.session.course, l.watch)
+invariant-loop-place g l =
+    HasDone (λ ts. AreSaid false (take l.place (numbered l.script)) ts (is_some l.session.awaited)) g.V.Watch.starts g.V.Observer.takes g.V.Watch.notes (None, l.fn.watch) (lab_in l.session.course, l.watch)

@@ -1,8 +1,17 @@
-use Rattle.std.proofs.Common.{Some}
+use Rattle.std.proofs.Common.{Some, ap, sym}
+use Rattle.ripngd_lab.specs.Doing.{IsNote}
 use Rattle.ripngd_lab.specs.ScriptWatching.{value_of}
-use Rattle.ripngd_lab.proofs.ScriptWatching.{untold, has_told}
+use Rattle.ripngd_lab.specs.declared.course.Site.{Site}
+use Rattle.ripngd_lab.proofs.Doing.{done_from}
+use Rattle.ripngd_lab.proofs.ScriptWatching.{told_from, untold_as}
 use Rattle.ripngd_lab.proofs.course.Course.bend.Goals as goal
 
-pub returns-in_err-push : goal.returns-in_err-push
-returns-in_err-push g c =
-    has_told g.V.Watch.starts g.V.Observer.takes g.V.Observer.fails g.V.Watch.notes c.from_residual.result (Some (value_of c.args.self.now.site), c.args.watch.now) (Some (value_of c.args.self.now.site), c.args.watch.now) (untold g.V.Watch.starts g.V.Observer.takes g.V.Observer.fails g.V.Watch.notes (Some (value_of c.args.self.now.site), c.args.watch.now))
+pub returns-in_err-set_horizon-clause-told : goal.returns-in_err-set_horizon-clause-told
+returns-in_err-set_horizon-clause-told g c =
+    untold_as g.V.Watch.starts g.V.Observer.takes g.V.Observer.fails g.V.Watch.notes c.from_residual.result (Some (value_of c.args.self.now.site)) (Some (value_of c.set_horizon.new.self.site)) c.args.watch.now (ap (λ (s : Site). Some (value_of s)) c.set_horizon.ensures)
+
+pub returns-clause-told : goal.returns-clause-told
+returns-clause-told g c = told_from g.V.Watch.starts g.V.Observer.takes g.V.Observer.fails g.V.Watch.notes c.tell.result (Some (value_of c.args.self.now.site)) (Some (value_of c.set_horizon.new.self.site)) c.args.watch.now (Some (value_of c.set_horizon.new.self.site), c.tell.new.watch) (ap (λ (s : Site). Some (value_of s)) (sym c.set_horizon.ensures)) c.tell.ensures.told
+
+pub returns-clause-done : goal.returns-clause-done
+returns-clause-done g c = done_from g.V.Watch.starts g.V.Observer.takes g.V.Observer.fails g.V.Watch.notes c.tell.result IsNote (Some (value_of c.args.self.now.site)) (Some (value_of c.set_horizon.new.self.site)) c.args.watch.now (Some (value_of c.set_horizon.new.self.site), c.tell.new.watch) (ap (λ (s : Site). Some (value_of s)) (sym c.set_horizon.ensures)) c.tell.ensures.done

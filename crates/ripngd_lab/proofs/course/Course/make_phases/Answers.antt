@@ -4,6 +4,8 @@ use Rattle.ripng_phases.specs.Making.{AreMadeInPart, AreMadePhases, HealsIn}
 use Rattle.ripng_world.specs.Labs.{LabValue}
 use Rattle.ripngd_lab.specs.Phasing.{AreMadeAndCounted}
 use Rattle.ripngd_lab.specs.ScriptWatching.{IsToldOfLab, value_of}
+use Rattle.ripngd_lab.specs.Doing.{EndsInPhases, HasDone}
+use Rattle.ripngd_lab.proofs.Doing.{counted_done}
 use Rattle.ripngd_lab.proofs.ScriptWatching.{counted_on, fault_told, has_told_on, phases_told, phases_stopped, told_from}
 use Rattle.ripngd_lab.proofs.course.Course.make_phases.Goals as goal
 
@@ -38,3 +40,8 @@ returns-in-Err-clause-told g c =
     told_from g.V.Watch.starts g.V.Observer.takes g.V.Observer.fails g.V.Watch.notes (Err c.stop_at.result) (Some (value_of c.args.self.now.site)) (Some c.in-Lawful.lab) c.args.watch.now (Some c.run_phases-phase.new.lab, c.run_phases-phase.new.watch) (ap Some (ap value_of c.in-Lawful.is))
     (phases_stopped g.V.Watch.starts g.V.Observer.takes g.V.Observer.fails g.V.Watch.notes c.in-Lawful.lab c.run_phases-phase.new.lab c.args.watch.now c.run_phases-phase.new.watch c.run_phases-phase.result.0 c.in-Err.why c.stop_at.result c.run_phases-phase.ensures.network c.stop_at.ensures
     (IfErr-at_err (λ e. AreMadeInPart g.V.Observer.takes g.V.Observer.fails c.in-Lawful.lab.network (c.in-Lawful.lab.world, c.args.watch.now) c.run_phases-phase.result.0 e (c.run_phases-phase.new.lab.world, c.run_phases-phase.new.watch)) c.in-Err.is c.run_phases-phase.ensures.stopped))
+
+pub returns-in_ok-noticed-in-Ok-clause-done : goal.returns-in_ok-noticed-in-Ok-clause-done
+returns-in_ok-noticed-in-Ok-clause-done g c =
+    subst (λ (l : LabValue). HasDone (EndsInPhases c.args.line.now.count) g.V.Watch.starts g.V.Observer.takes g.V.Watch.notes (Some l, c.args.watch.now) (Some c.run_phases-phase.new.lab, c.noticed.new.self)) (ap value_of (sym c.in-Lawful.is))
+    (counted_done g.V.Watch.starts g.V.Observer.takes g.V.Observer.fails g.V.Watch.notes (Some c.in-Lawful.lab, c.args.watch.now) (Some c.run_phases-phase.new.lab) c.run_phases-phase.new.watch c.noticed.new.self c.args.line.now.count c.in-Ok.last (phases_told g.V.Watch.starts g.V.Observer.takes g.V.Observer.fails g.V.Watch.notes c.in-Lawful.lab c.run_phases-phase.new.lab c.args.watch.now c.run_phases-phase.new.watch c.run_phases-phase.result.0 c.in-Ok.last c.run_phases-phase.ensures.network (IfOk-at_ok (λ last. AreMadePhases g.V.Observer.takes c.in-Lawful.lab.network (c.in-Lawful.lab.world, c.args.watch.now) c.run_phases-phase.result.0 last (c.run_phases-phase.new.lab.world, c.run_phases-phase.new.watch)) c.in-Ok.is c.run_phases-phase.ensures.made)) c.in_ok-noticed-in-Ok.ensures.notes)

@@ -1,20 +1,18 @@
-use Rattle.std.proofs.Common.{Err, ap, ◌∙◌}
+use Rattle.std.proofs.Common.{Err, ap, sym, ◌∙◌}
 use Rattle.ripngd_lab.specs.ScriptWatching.{lab_in}
-use Rattle.ripngd_lab.proofs.ScriptWatching.{untold_as}
+use Rattle.ripngd_lab.proofs.Saying.{obeyed}
+use Rattle.ripngd_lab.proofs.ScriptWatching.{told_from, untold_as}
 use Rattle.ripngd_lab.proofs.script.Session.obey.Goals as goal
 
-pub returns-in-Err : goal.returns-in-Err
-returns-in-Err g c =
-    untold_as g.V.Watch.starts g.V.Observer.takes g.V.Observer.fails g.V.Watch.notes (Err c.from.result) (lab_in c.args.self.now.course) (lab_in c.read.new.self.course) c.args.watch.now (ap lab_in c.read.ensures)
+pub returns-in-Err-clause-told : goal.returns-in-Err-clause-told
+returns-in-Err-clause-told g c =
+    untold_as g.V.Watch.starts g.V.Observer.takes g.V.Observer.fails g.V.Watch.notes (Err c.from.result) (lab_in c.args.self.now.course) (lab_in c.read.new.self.course) c.args.watch.now (ap lab_in c.read.ensures.course)
 
-pub returns-in-Router : goal.returns-in-Router
-returns-in-Router g c =
-    untold_as g.V.Watch.starts g.V.Observer.takes g.V.Observer.fails g.V.Watch.notes c.list.result (lab_in c.args.self.now.course) (lab_in c.list.new.self.course) c.args.watch.now (ap lab_in (c.list.ensures ∙ c.read.ensures))
+pub returns-clause-told : goal.returns-clause-told
+returns-clause-told g c =
+    told_from g.V.Watch.starts g.V.Observer.takes g.V.Observer.fails g.V.Watch.notes c.carry_out.result (lab_in c.args.self.now.course) (lab_in c.read.new.self.course) c.args.watch.now (lab_in c.carry_out.new.self.course, c.carry_out.new.watch) (ap lab_in (sym c.read.ensures.course)) c.carry_out.ensures.told
 
-pub returns-in_err-running-in-Await : goal.returns-in_err-running-in-Await
-returns-in_err-running-in-Await g c =
-    untold_as g.V.Watch.starts g.V.Observer.takes g.V.Observer.fails g.V.Watch.notes c.from_residual.result (lab_in c.args.self.now.course) (lab_in c.read.new.self.course) c.args.watch.now (ap lab_in c.read.ensures)
-
-pub returns-in_err-course-in-Act : goal.returns-in_err-course-in-Act
-returns-in_err-course-in-Act g c =
-    untold_as g.V.Watch.starts g.V.Observer.takes g.V.Observer.fails g.V.Watch.notes c.from_residual-in_err-course-in-Act.result (lab_in c.args.self.now.course) (lab_in c.read.new.self.course) c.args.watch.now (ap lab_in c.read.ensures)
+pub returns-clause-done : goal.returns-clause-done
+returns-clause-done g c =
+    obeyed g.V.Watch.starts g.V.Observer.takes g.V.Observer.fails g.V.Watch.notes c.carry_out.result c.args.words.now c.in-Ok.line c.args.self.now.awaited c.read.new.self.awaited c.carry_out.new.self.awaited (lab_in c.args.self.now.course) (lab_in c.read.new.self.course) c.args.watch.now (lab_in c.carry_out.new.self.course, c.carry_out.new.watch)
+    c.in-Ok.ensures.verb (ap lab_in c.read.ensures.course) c.read.ensures.awaited c.carry_out.ensures.done c.carry_out.ensures.awaited
