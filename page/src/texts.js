@@ -24,7 +24,7 @@ const REASONS = new Map(Object.entries({
   BadCost: 'a cost is 1 to 15', PrefixNotAllowed: 'the prefix is multicast or link-local',
   AlreadyOwned: 'the router owns it', OwnedFull: 'a router owns at most 1,024 prefixes',
   NotOwned: 'the router does not own it', NoInterface: 'a router has an interface',
-  TooManyInterfaces: 'a router has at most 16 interfaces', AddressNotLinkLocal: "an interface's address is link-local",
+  TooManyInterfaces: 'a router has at most 256 interfaces', AddressNotLinkLocal: "an interface's address is link-local",
   AddressTwice: 'two interfaces of the router have one address', BadMtu: 'an MTU is 1,280 to 65,535',
   TooManyPrefixes: 'a router owns at most 1,024 prefixes', PrefixTwice: 'the prefix is owned twice',
   NoRegularUpdate: "the router's regular update is not due",
