@@ -60,11 +60,11 @@ def prefix(text, **keys):
 class Process:
     """A program that was started: what it has written, and how it ends."""
 
-    def __init__(self, words, folder, name, environment):
+    def __init__(self, words, folder, name, environment, descriptors=()):
         self.files = [pathlib.Path(folder, f"{name}.{stream}") for stream in ("out", "err")]
         with open(self.files[0], "wb") as out, open(self.files[1], "wb") as err:
             self.process = subprocess.Popen(words, cwd=folder, stdin=subprocess.DEVNULL, stdout=out, stderr=err,
-                                            env=dict(os.environ, **environment))
+                                            env=dict(os.environ, **environment), pass_fds=descriptors)
 
     def out(self):
         return self.files[0].read_text()
@@ -109,7 +109,7 @@ class Router(Process):
 
     def __init__(self, case, name, *words, **environment):
         self.case, self.name = case, name
-        super().__init__([case.program, "run", *words, f"{name}.toml"], case.folder, name, environment)
+        super().__init__([case.program, "run", *words, f"{name}.toml"], case.folder, name, environment, case.descriptors)
 
     def log(self):
         file = pathlib.Path(self.case.folder, f"{self.name}.log")
@@ -171,11 +171,12 @@ class Client:
 
 
 class Case:
-    """What a case has: a folder, free ports, and all that it starts, which ends with it."""
+    """What a case has: a folder, free ports, the numbers of sockets that its routers inherit, and all that it starts, which ends with
+    it."""
 
     def __init__(self, program, folder):
         self.program, self.folder = program, folder
-        self.ports, self.started, self.sockets = Ports(), [], []
+        self.ports, self.descriptors, self.started, self.sockets = Ports(), [], [], []
 
     def close(self):
         for process in self.started:
@@ -197,7 +198,7 @@ class Case:
         """Runs the program to its end."""
         try:
             done = subprocess.run([self.program, *words], cwd=self.folder, stdin=subprocess.DEVNULL, capture_output=True, text=True,
-                                  timeout=SECONDS, env=dict(os.environ, **environment))
+                                  timeout=SECONDS, env=dict(os.environ, **environment), pass_fds=self.descriptors)
         except subprocess.TimeoutExpired:
             raise Failed(f"{words} does not end")
         return Outcome(done.returncode, done.stdout, done.stderr)

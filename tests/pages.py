@@ -37,6 +37,7 @@ NOT_PLAYED = {
     r"git grep": "a clone with its history",
     r"sysctl": "root; it changes the system",
     r"page/build.sh": "the kit, and minutes; the gate checks the page by it",
+    r"tools/mutants": "minutes, the kit, and root",
     r"apt install": "root and a package; tests/links/package.py plays it",
     r"/usr/share/doc/ripngd/links/bird.sh": "root and BIRD; tests/links/package.py has it",
     r"ripngd-links": "root and a link; tests/links plays it",
@@ -185,7 +186,7 @@ def no_unknown_words(program):
     tree, known = Tree(ROOT), set(subcommands(program))
     targets = set(" ".join(re.findall(r"^([a-z][\w ]*):", tree.text("Makefile"), re.MULTILINE)).split())
     helps = " ".join(help_of(program, "help", word) for word in known)
-    sources = helps + " ".join(tree.text(file) for file in tree.files if file.parts[0] in ("links", "tools", "tests", "page", ".ci") and file.suffix in (".py", ".sh", ""))
+    sources = helps + " ".join(tree.text(file) for file in tree.files if file.parts[0] in ("bench", "links", "tools", "tests", "page", ".ci") and file.suffix in (".py", ".sh", ""))
     faults = []
     for place, line in tree.page_lines():
         for code in SPAN.findall(line):

@@ -25,7 +25,7 @@ import graphs
 from graphs import Fault
 
 # Limits of a script (docs/SCRIPTS.md) and of a router (docs/PROTOCOL.md).
-ROUTERS, INTERFACES, COSTS, ROUNDS = 64, 16, range(1, 16), range(1, 1001)
+ROUTERS, INTERFACES, COSTS, ROUNDS = 64, 256, range(1, 16), range(1, 1001)
 # How many milliseconds are from one round to the next: the period of regular updates with the random word 0.
 GAP = 15_000
 # Each shape: what makes it, the least of each of its numbers (0 for a share of one), and how many of them have to be there.

@@ -7,7 +7,7 @@ LOOKING = ("tick", "restart")
 
 
 def takes(trace):
-    """And each is ordinary: no start, no shutdown, no link that goes down or comes up, no change; and memory suffices (`Takes`)."""
+    """And each is ordinary: no start, no shutdown, no link that goes down, no change; and memory suffices (`Takes`)."""
     return happen(trace) or first_of(f"{step} is not ordinary" for step in trace.steps if step.kind in UNORDINARY or "NoMemory" in step.notes)
 
 

@@ -10,7 +10,7 @@ from recorded.history import neighbors
 from recorded.links import not_a_strangers
 from recorded.words import words
 
-PLAIN = ("Listen", "Tick", "Refuse")
+PLAIN = ("Listen", "Tick", "LinkUp", "Ask", "Refuse")
 LOOKS = ("Tick", "Start")
 LOST = re.compile(r"\blost .*\bsteps (\d+)")
 
@@ -93,7 +93,7 @@ def ended(stretch):
 
 
 def plain(stretch):
-    """None is started anew or shut down, no link goes down or comes up, and no configuration is changed (`IsPlain`)."""
+    """None is started anew or shut down, no link goes down, and no configuration is changed (`IsPlain`)."""
     return first_of(f"router {dated.deed.router} does {dated.deed.act} at {dated.at}" for _, dated in stretch.all if dated.deed.act not in PLAIN)
 
 

@@ -5,7 +5,7 @@ import bisect
 import dataclasses
 import json
 
-UNORDINARY = ("restart", "shutdown", "link_down", "link_up", "cost", "gain", "drop")
+UNORDINARY = ("restart", "shutdown", "link_down", "cost", "gain", "drop")
 """The kinds of events that are not ordinary (`IsOrdinary`)."""
 
 
