@@ -1,10 +1,10 @@
 -- What any event sends tells, below 16, routes that its sender then holds: each with its metric and its tag.
-use Rattle.std.proofs.Common.{◌≡◌, ℕ, max, ◌<◌, Bool, true, false, cond, nat_lt, List, [], ◌∷◌, ◌++◌, map, length, Option, Some, None, option_and_then, slice_get, refl, ap, sym, subst, ◌∙◌, arith}
+use Rattle.std.proofs.Common.{◌≡◌, ℕ, max, ◌<◌, List, [], ◌∷◌, ◌++◌, map, Option, Some, None, option_and_then, slice_get, refl, ap, sym, subst, ◌∙◌, arith}
 use Rattle.std.specs.List.{AllByRecursion, enumerate_from}
 use Rattle.std.specs.FinMap as map_of
 use Rattle.prefix6.specs.Prefix.{Prefix6, IsPrefix}
 use Rattle.ripng_wire.specs.declared.rte.Rte.{Rte}
-use Rattle.ripng_wire.specs.declared.rte.Command.TheVariants.{Request, Response}
+use Rattle.ripng_wire.specs.declared.rte.Command.TheVariants.{Response}
 use Rattle.ripng_wire.specs.Layout.{Spells}
 use Rattle.ripng_wire.specs.Wire.{is_response}
 use Rattle.route_table.specs.Route.{RouteValue, infinity}
@@ -15,7 +15,7 @@ use Rattle.router_core.specs.Config.{Config}
 use Rattle.router_core.specs.Faults.{fault}
 use Rattle.router_core.specs.Machine.{State, Happening, Arrives, Ticks, Restarts, Reconfigures, ShutsDown, LinkGoesDown, LinkComesUp, is_regular_due, is_triggered_due}
 use Rattle.router_core.specs.Offers.{prefix_named}
-use Rattle.router_core.specs.Output.{Message, AreSpelled, start_messages, every_route, link_up_messages, request_on}
+use Rattle.router_core.specs.Output.{Message, AreSpelled, asked_on, start_messages, every_route, link_up_messages}
 use Rattle.router_core.specs.Adoption.{lost}
 use Rattle.router_core.specs.Shutdown.{shutdown_messages, unreachable_table}
 use Rattle.router_core.specs.declared.answer.Answer.{Answer}
@@ -24,11 +24,11 @@ use Rattle.ripng_world.specs.Network.{Network}
 use Rattle.ripng_world.specs.Rounds.{router_of}
 use Rattle.ripng_world.specs.World.{World, Event, Deliver, Stranger, Tick, Restart, Shutdown, LinkDown, LinkUp, Reconfigure, RouterMoves, Happens, arrival_of, sent_by}
 use Rattle.ripng_world.specs.declared.event.Sent.{Sent}
-use Rattle.ripng_world.proofs.Each.{each_at_place, each_image, each_mapped, each_weaker}
+use Rattle.ripng_world.proofs.Each.{each_at_place, each_flat, each_mapped, each_weaker}
 use Rattle.ripng_world.proofs.Members.{At}
 use Rattle.ripng_world.proofs.RoundNeighbors.{set_here}
 use Rattle.ripng_phases.proofs.Sending.{AreTrue, arrived_true, ticked_true}
-use Rattle.ripng_phases.proofs.Telling.{IsClean, IsTrueOf, AllTrueMessages, IsTrueMessage, spelled_true, tick_sound, updates_true}
+use Rattle.ripng_phases.proofs.Telling.{IsClean, IsTrueOf, AllTrueMessages, IsTrueMessage, asked_true, link_up_true, spelled_true, tick_sound, updates_true}
 
 -- each entry below 16 is a route of the table
 abbrev pub IsOfTable : Table → List ℕ → Type 0
@@ -50,9 +50,9 @@ TellsTables e w w' = (new : List Sent) × (w'.sent ≡ w.sent ++ new) × AllByRe
 abbrev AreOf : Table → List Outgoing → Type 0
 AreOf table sends = AllByRecursion (λ o. IsOfTable table o.bytes) sends
 
-from_true : (table : Table) (sends : List Outgoing) → AreTrue table sends → AreOf table sends
-from_true table sends all =
-    each_weaker (λ o. IsOfTable table o.bytes) _ (λ o t entries spelled e stands low. (each_at_place (IsTrueOf table o.iface) entries (t entries spelled) stands.0 e stands.1).low low) sends all
+from_true : (config : Config) (table : Table) (sends : List Outgoing) → AreTrue config table sends → AreOf table sends
+from_true config table sends all =
+    each_weaker (λ o. IsOfTable table o.bytes) _ (λ o t entries spelled e stands low. (each_at_place (IsTrueOf config table o.iface) entries (t entries spelled) stands.0 e stands.1).low low) sends all
 
 -- of a router that shuts down, no route of which can be told below 16
 from_unreachable : (now : ℕ) (old table : Table) (sends : List Outgoing) → AreOf (unreachable_table now old) sends → AreOf table sends
@@ -87,30 +87,12 @@ from_none : (table : Table) (sends : List Outgoing) → AreSpelled [] sends → 
 from_none table [] spelled = tt
 from_none table (o ∷ os) spelled = absurd spelled
 
-module _ (table : Table) (clean : IsClean table) where
-  request_true : (iface : ℕ) → IsTrueMessage table clean (request_on iface)
-  request_true iface is = absurd (other is)
-    where
-      other : Request ≡ Response → ⊥
-      other e = cc
+module _ (config : Config) (table : Table) (clean : IsClean table) where
+  starts_true : AllTrueMessages config table clean (start_messages config)
+  starts_true = each_flat (IsTrueMessage config table clean) (λ t. asked_on config t.0) (λ t. asked_true config table clean t.0) (enumerate_from 0 config.interfaces)
 
-  starts_true : (config : Config) → AllTrueMessages table clean (start_messages config)
-  starts_true config =
-      elim config.quiet as (λ b. AllTrueMessages table clean (cond b [] (map (λ t. request_on t.0) (enumerate_from 0 config.interfaces)))) [
-        | true ↦ tt
-        | false ↦ each_image (IsTrueMessage table clean) (λ t. request_on t.0) (λ t. request_true t.0) (enumerate_from 0 config.interfaces)
-      ]
-
-  link_up_true : (config : Config) (iface : ℕ) → AllTrueMessages table clean (link_up_messages config iface)
-  link_up_true config iface = by config.quiet (nat_lt iface (length config.interfaces))
-    where
-      by : (b c : Bool) → AllTrueMessages table clean (cond b [] (cond c (request_on iface ∷ []) []))
-      by true c = tt
-      by false true = (request_true iface, tt)
-      by false false = tt
-
-  asks : (ms : List Message) (sends : List Outgoing) → AllTrueMessages table clean ms → AreSpelled ms sends → AreOf table sends
-  asks ms sends all spelled = from_true table sends (spelled_true table clean ms sends all spelled)
+  asks : (ms : List Message) (sends : List Outgoing) → AllTrueMessages config table clean ms → AreSpelled ms sends → AreOf table sends
+  asks ms sends all spelled = from_true config table sends (spelled_true config table clean ms sends all spelled)
 
 mover_tells : (w w' : World) (e : Event) (what : Happening) (answer : Answer) (m : RouterMoves w (router_of e) what answer w') → AreOf m.new.table answer.sends → TellsTables e w w'
 mover_tells w w' e what answer m all = (
@@ -129,30 +111,30 @@ module _ (net : Network) (w w' : World) (clean : AreClean w) (clean' : AreClean 
   pub any_tells : (e : Event) (answer : Answer) → Happens net w e answer w' → TellsTables e w w'
   any_tells (Deliver datagram to iface now) answer d =
       mover_tells w w' (Deliver datagram to iface now) (Arrives (arrival_of net d.sent iface now)) answer d.moves
-      (from_true d.moves.new.table answer.sends (arrived_true d.moves.old d.moves.new (arrival_of net d.sent iface now) answer (clean to d.moves.old d.moves.old_is)
+      (from_true d.moves.new.config d.moves.new.table answer.sends (arrived_true d.moves.old d.moves.new (arrival_of net d.sent iface now) answer (clean to d.moves.old d.moves.old_is)
       (fault d.moves.old.config (arrival_of net d.sent iface now)) (is_response d.sent.bytes) d.moves.moves))
   any_tells (Stranger to x) answer i =
       mover_tells w w' (Stranger to x) (Arrives x) answer i.moves
-      (from_true i.moves.new.table answer.sends (arrived_true i.moves.old i.moves.new x answer (clean to i.moves.old i.moves.old_is) (fault i.moves.old.config x) (is_response x.bytes) i.moves.moves))
+      (from_true i.moves.new.config i.moves.new.table answer.sends (arrived_true i.moves.old i.moves.new x answer (clean to i.moves.old i.moves.old_is) (fault i.moves.old.config x) (is_response x.bytes) i.moves.moves))
   any_tells (Tick to now word) answer m =
       mover_tells w w' (Tick to now word) (Ticks now word) answer m
       (subst (λ (s : State). AreOf s.table answer.sends) (sym m.moves.state)
-      (from_true _ answer.sends (ticked_true m.old (max m.old.last now) word answer.sends
-      (tick_sound (aged_table (max m.old.last now) m.old.table) (aged_clean (max m.old.last now) m.old.table (clean to m.old m.old_is)) m.old (max m.old.last now) answer.sends refl m.moves.answer_is.sends)
+      (from_true _ _ answer.sends (ticked_true m.old (max m.old.last now) word answer.sends
+      (tick_sound m.old (max m.old.last now) (aged_clean (max m.old.last now) m.old.table (clean to m.old m.old_is)) answer.sends m.moves.answer_is.sends)
       (is_regular_due m.old (max m.old.last now)) (is_triggered_due m.old (max m.old.last now)))))
   any_tells (Restart to now) answer m =
       let is_clean : IsClean m.new.table = clean' to m.new (ap (λ (xs : List State). slice_get xs to) m.states ∙ set_here w.states to m.old m.new m.old_is) in
       mover_tells w w' (Restart to now) (Restarts now) answer m
-      (asks m.new.table is_clean (start_messages m.old.config) answer.sends (starts_true m.new.table is_clean m.old.config) m.moves.answer_is.sends)
+      (asks m.old.config m.new.table is_clean (start_messages m.old.config) answer.sends (starts_true m.old.config m.new.table is_clean) m.moves.answer_is.sends)
   any_tells (LinkUp to now on) answer m =
       mover_tells w w' (LinkUp to now on) (LinkComesUp now on) answer m
       (subst (λ (s : State). AreOf s.table answer.sends) (sym m.moves.state)
-      (asks m.old.table (clean to m.old m.old_is) (link_up_messages m.old.config on) answer.sends (link_up_true m.old.table (clean to m.old m.old_is) m.old.config on) m.moves.answer_is.sends))
+      (asks m.old.config m.old.table (clean to m.old m.old_is) (link_up_messages m.old.config on) answer.sends (link_up_true m.old.config m.old.table (clean to m.old m.old_is) on) m.moves.answer_is.sends))
   any_tells (Shutdown to now) answer m =
       mover_tells w w' (Shutdown to now) (ShutsDown now) answer m
       (from_unreachable (max m.old.last now) m.old.table m.new.table answer.sends
       (let is_clean : IsClean (unreachable_table (max m.old.last now) m.old.table) = unreachable_clean (max m.old.last now) m.old.table (clean to m.old m.old_is) in
-      asks (unreachable_table (max m.old.last now) m.old.table) is_clean (shutdown_messages m.old.config (max m.old.last now) m.old.table) answer.sends
-      (updates_true (unreachable_table (max m.old.last now) m.old.table) is_clean m.old.config every_route) m.moves.answer_is.sends))
+      asks m.old.config (unreachable_table (max m.old.last now) m.old.table) is_clean (shutdown_messages m.old.config (max m.old.last now) m.old.table) answer.sends
+      (updates_true m.old.config (unreachable_table (max m.old.last now) m.old.table) is_clean every_route) m.moves.answer_is.sends))
   any_tells (LinkDown to now on) answer m = mover_tells w w' (LinkDown to now on) (LinkGoesDown now on) answer m (from_none m.new.table answer.sends m.moves.answer_is.sends)
   any_tells (Reconfigure to now c) answer m = mover_tells w w' (Reconfigure to now c) (Reconfigures now c) answer m (from_none m.new.table answer.sends m.moves.answer_is.sends)

@@ -221,8 +221,8 @@ module _ (net : Network) (known : Prefix6 → Type 0) (positive : IsPositive net
         let low = at_next net known past w steps w' calm before s after parts (IsLow net known positive past w steps w' calm past.first m (length w.sent)) (low_at net known positive past w steps w' calm m held said) in
         record {
           found = found_next;
-          full = told_full net known positive s.after orderly past.first (Within past steps) held' m low.said (reached w before) tells past.first f (le_trans f_le few) (fewer s.after found_next) now.full;
-          told = told_full net known positive s.after orderly past.first (Within past steps) held' m low.said (reached w before) tells (length w.sent) d few found_next now.told;
+          full = told_full net known positive s.after orderly past.first (Within past steps) held' m low.said calm.fits (reached w before) tells past.first f (le_trans f_le few) (fewer s.after found_next) now.full;
+          told = told_full net known positive s.after orderly past.first (Within past steps) held' m low.said calm.fits (reached w before) tells (length w.sent) d few found_next now.told;
         }
 
   pub found_at : Found net w d → SaidFull net w past.first f → (before after : List Step) → steps ≡ before ++ after → IsFoundAt (reached w before)

@@ -2,16 +2,17 @@
 use Rattle.std.proofs.Common.{◌≡◌, ℕ, ◌+◌, ◌≤◌, List, [], ◌∷◌, ◌++◌, length, Option, Some, None, option_map, unwrap_or, slice_get, refl, ap, sym, subst, ◌∙◌, IsFalse, arith, length-append}
 use Rattle.route_table.specs.Route.{infinity}
 use Rattle.route_table.proofs.TableLaws.{Some-same, None-Some}
+use Rattle.router_core.specs.Announcing.{is_passive}
 use Rattle.router_core.specs.declared.reconfiguring.Change.{Change}
 use Rattle.ripng_world.specs.Convergence.{IsNeverQuiet}
 use Rattle.ripng_world.specs.Healing.{AreHealed, FitsTablesSince, network_now}
-use Rattle.ripng_world.specs.Network.{Network, Node, IsNetwork}
+use Rattle.ripng_world.specs.Network.{Network, Node, IsNetwork, config_of}
 use Rattle.ripng_world.specs.Packets.{PacketsArrive}
 use Rattle.ripng_world.specs.World.{World, Event, IsCold, WorldRun, past_of}
 use Rattle.ripng_world.specs.declared.network.NetInterface.{NetInterface}
 use Rattle.ripng_world.proofs.HealHearing.{AreFew}
 use Rattle.ripng_world.proofs.Healed.{to_gateways}
-use Rattle.ripng_world.proofs.NetworkNow.{AreAlike, now_alike, now_lawful}
+use Rattle.ripng_world.proofs.NetworkNow.{AreAlike, now_alike, now_lawful, passive_alike, passive_of}
 use Rattle.ripng_world.proofs.PacketsAfter.{arrive_in_run}
 use Rattle.ripng_world.proofs.Reached.{IsKnown}
 use Rattle.ripng_phases.specs.Phases.{Step, IsBegun, Before, BegunAfter, Begun, Phases, before_next, steps_of, events_of, reached}
@@ -26,11 +27,11 @@ use Rattle.ripng_phases.proofs.Stages.{CalmBegun}
 use Rattle.ripng_phases.proofs.Updating.{IsCalmPart}
 
 noisy_alike : (net other : Network) → AreAlike net other → IsNeverQuiet net → IsNeverQuiet other
-noisy_alike net other same noisy router node is = by_value (slice_get net router) refl (sym (ap (option_map (λ (n : Node). n.quiet)) is) ∙ same.quiet router)
+noisy_alike net other same noisy router iface node is = by_value (slice_get net router) refl (sym (ap (option_map passive_of) is) ∙ same.passive router)
   where
-    by_value : (o : Option Node) → slice_get net router ≡ o → Some node.quiet ≡ option_map (λ (n : Node). n.quiet) o → IsFalse node.quiet
-    by_value None at e = absurd (None-Some node.quiet (sym e))
-    by_value (Some n) at e = Some-same node.quiet n.quiet e ∙ noisy router n at
+    by_value : (o : Option Node) → slice_get net router ≡ o → Some (passive_of node) ≡ option_map passive_of o → IsFalse (is_passive (config_of node) iface)
+    by_value None at e = absurd (None-Some (passive_of node) (sym e))
+    by_value (Some n) at e = passive_alike iface n node (sym (Some-same (passive_of node) (passive_of n) e)) (noisy router iface n at)
 
 positive_of : (net : Network) → IsNetwork net → IsPositive net
 positive_of net is_net router iface here is =

@@ -70,7 +70,7 @@ module _ (net : Network) (known : Prefix6 → Type 0) (moments : ℕ → ℕ →
       of_new a =
           let told : IsToldTruly w' d = each_at_place (IsToldTruly w') tells.0 tells.2 a.0 d a.1 in
           let same : told.0 ≡ t = Some-same told.0 t (sym told.1 ∙ t_is) in
-          let r = (each_at_place (IsTrueOf told.0.table d.iface) entries (told.2 entries spelled) stands.0 entry stands.1).low low in
+          let r = (each_at_place (IsTrueOf told.0.config told.0.table d.iface) entries (told.2 entries spelled) stands.0 entry stands.1).low low in
           let at : map_of.get t.table (prefix_named entry) ≡ Some r.0 = ap (λ (s : State). map_of.get s.table (prefix_named entry)) (sym same) ∙ r.1 in
           (r.0, at, low_lasts d.router t.last r.0 (subst (λ n. n < infinity) (sym r.2) low) ((orderly.states d.router t t_is).plain (prefix_named entry) r.0 at).clocked)
 

@@ -15,7 +15,7 @@ use Rattle.ripng_world.specs.Healing.{network_now}
 use Rattle.ripng_world.specs.Network.{Network, Node, AreZoned, IsNetwork, Owns, config_of}
 use Rattle.ripng_world.specs.World.{World}
 use Rattle.ripng_world.proofs.HealPlain.{IsPlainRow}
-use Rattle.ripng_world.proofs.NetworkNow.{now_alike, now_zoned}
+use Rattle.ripng_world.proofs.NetworkNow.{now_alike, now_zoned, passive_of}
 use Rattle.ripng_world.proofs.Reached.{IsKnown, IsReachedBy}
 use Rattle.ripng_world.proofs.ReachedRuns.{IsReachedState}
 use Rattle.ripng_phases.specs.Phases.{Step, Takes, reached}
@@ -51,7 +51,7 @@ module _ (start : Network) (is_net : IsNetwork start) (reconfigurations : List (
       record {
         zoned = now_zoned reconfigurations start is.all.zoned;
         states = λ router s at. orderly_state router s (state_at start is_net reconfigurations w is router s at);
-        everyone = λ router node node_is. there router node (slice_get start router) refl (sym ((now_alike reconfigurations start).quiet router) ∙ ap (option_map (λ (n : Node). n.quiet)) node_is);
+        everyone = λ router node node_is. there router node (slice_get start router) refl (sym ((now_alike reconfigurations start).passive router) ∙ ap (option_map passive_of) node_is);
       }
     where
       listed : (router : ℕ) (s : State) (t : IsReachedState start reconfigurations router s) (p : Prefix6) (tag : ℕ) → Owns (network_now (record { net = start; reconfigurations = reconfigurations })) router p tag → (i : ℕ) × (slice_get s.config.prefixes i ≡ Some (p, tag))
@@ -80,8 +80,8 @@ module _ (start : Network) (is_net : IsNetwork start) (reconfigurations : List (
             owned = λ p tag owns. t.reached.owned p tag (listed router s t p tag owns);
           }
 
-      there : (router : ℕ) (node : Node) (o : Option Node) → slice_get start router ≡ o → option_map (λ (n : Node). n.quiet) o ≡ Some node.quiet → (s : State) × (slice_get w.states router ≡ Some s)
-      there router node None is' e = absurd (None-Some node.quiet e)
+      there : (router : ℕ) (node : Node) (o : Option Node) → slice_get start router ≡ o → option_map passive_of o ≡ Some (passive_of node) → (s : State) × (slice_get w.states router ≡ Some s)
+      there router node None is' e = absurd (None-Some (passive_of node) e)
       there router node (Some n) is' e = is.all.everyone router n is'
 
   pub all_orderly : (steps : List Step) (w w' : World) → Takes start w steps w' → IsSettled start is_net reconfigurations w

@@ -33,6 +33,6 @@ said_on net w w' first m tells tables said i d late is entries spelled e stands 
     of_new : At tells.0 d → IsAbove net m d.router (prefix_named e) e.metric
     of_new a =
         let told : IsToldTruly w' d = each_at_place (IsToldTruly w') tells.0 tells.2 a.0 d a.1 in
-        let r = (each_at_place (IsTrueOf told.0.table d.iface) entries (told.2 entries spelled) stands.0 e stands.1).low low in
+        let r = (each_at_place (IsTrueOf told.0.config told.0.table d.iface) entries (told.2 entries spelled) stands.0 e stands.1).low low in
         subst (IsAbove net m d.router (prefix_named e)) r.2
         (row_above net m d.router (prefix_named e) r.0 (tables d.router (prefix_named e) r.0 (told.0, told.1, r.1) (subst (λ n. n < infinity) (sym r.2) low)))

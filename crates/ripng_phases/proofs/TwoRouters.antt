@@ -30,7 +30,7 @@ use Rattle.router_core.specs.Faults.{fault}
 use Rattle.router_core.specs.Hearing.{Hearing, Heard, hearing, route_after, would_add, held_after, notes_of_new, allowed_notes, note_at}
 use Rattle.router_core.specs.Machine.{State, Arrives, Moves, Starts, Updates, Hears, Replies, Accepts, Refuses, owned_table, tick_messages}
 use Rattle.router_core.specs.Offers.{offer_at}
-use Rattle.router_core.specs.Output.{AreSpelled, every_route, told_entry, told_of, responses, update_messages, reply_messages, whole_table_request}
+use Rattle.router_core.specs.Output.{AreSpelled, every_route, told, told_entry, told_of, responses, update_messages, reply_messages, whole_table_request}
 use Rattle.router_core.specs.Owning.{owned_route}
 use Rattle.router_core.specs.Received.{Received}
 use Rattle.router_core.specs.Timers.{next_regular}
@@ -45,6 +45,7 @@ use Rattle.ripng_world.specs.declared.network.NetInterface.{NetInterface}
 use Rattle.router_core.proofs.HearingSteps.{after_one, before_all}
 use Rattle.router_core.proofs.NoFilters.{notes_without_filters}
 use Rattle.ripng_world.proofs.LawfulNetworks.{zones_of_one}
+use Rattle.router_core.proofs.Announced.{announced_all}
 
 -- fe80::n
 abbrev pub local : ℕ → ℕ
@@ -77,7 +78,7 @@ facing n = record { interface = port n; link = 7 }
 
 -- a router of the network, without filters and limits
 abbrev pub node : ℕ → List (Prefix6 × ℕ) → Node
-node n owned = record { interfaces = facing n ∷ []; prefixes = owned; quiet = false; filters = []; limits = [] }
+node n owned = record { interfaces = facing n ∷ []; prefixes = owned; quiet = false; filters = []; limits = []; passive = []; announcements = [] }
 
 abbrev pub nodes : Network
 nodes = node 1 owned ∷ node 2 [] ∷ []
@@ -239,7 +240,7 @@ updates n owned r last regular hold now word due stays same fits =
       state = ap (λ t. state (router n owned) t now (next_regular now word) hold) (sym (ap unmarked aged_is ∙ values_one without_mark r (told_once r) refl)) ∙ sym (chosen _ _ _ due);
       answer_is = record {
         fault = refl;
-        sends = subst (λ ms. AreSpelled ms (datagram Group Response (entry_of r) ∷ [])) (sym told) (all_spelled Group Response (entry_of r) fits);
+        sends = subst (λ ms. AreSpelled ms (datagram Group Response (entry_of r) ∷ [])) (sym messages_are) (all_spelled Group Response (entry_of r) fits);
         changes_are = sym none;
         notes_are = refl;
       };
@@ -248,10 +249,11 @@ updates n owned r last regular hold now word due stays same fits =
     aged_is : aged_table now (one_route r) ≡ one_route r
     aged_is = values_one (aged now) r r stays
 
-    told : tick_messages (state (router n owned) (one_route r) last regular hold) now ≡ record { iface = 0; to = Group; command = Response; entries = entry_of r ∷ [] } ∷ []
-    told =
+    messages_are : tick_messages (state (router n owned) (one_route r) last regular hold) now ≡ record { iface = 0; to = Group; command = Response; entries = entry_of r ∷ [] } ∷ []
+    messages_are =
         chosen _ _ _ due
         ∙ ap (λ t. update_messages (router n owned) every_route t) aged_is
+        ∙ ap (λ t. responses (router n owned) 0 Group (told 0 every_route t) ++ []) (announced_all (router n owned) 0 refl (one_route r))
         ∙ ap (λ es. responses (router n owned) 0 Group (told_of 0 every_route es) ++ []) (entries_one r)
 
     none : changes_of_ageing now (one_route r) ≡ []
@@ -398,7 +400,9 @@ replies last regular hold then now =
   where
     answered : reply_messages owner (one_route (owned_route 0)) (from_learner then) (whole_table_request ∷ [])
         ≡ record { iface = 0; to = Peer (local 2) 521; command = Response; entries = entry_of (owned_route 0) ∷ [] } ∷ []
-    answered = ap (λ es. responses owner 0 (Peer (local 2) 521) (told_of 0 every_route es)) (entries_one (owned_route 0))
+    answered =
+        ap (λ t. responses owner 0 (Peer (local 2) 521) (told 0 every_route t)) (announced_all owner 0 refl (one_route (owned_route 0)))
+        ∙ ap (λ es. responses owner 0 (Peer (local 2) 521) (told_of 0 every_route es)) (entries_one (owned_route 0))
 
 pub answers_request : (last regular hold now : ℕ)
     → Moves (state owner (one_route (owned_route 0)) last regular hold) (Arrives (from_learner now)) reply_answer

@@ -14,6 +14,8 @@ use Rattle.route_table.specs.declared.route.Origin.TheVariants.{Own}
 use Rattle.route_table.specs.Table.{Table}
 use Rattle.route_table.proofs.TableLaws.{Some-same, None-Some}
 use Rattle.router_core.specs.Adoption.{Gateway, adopted, adopted_by_clock, taken, lost, metric_through, is_reachable, is_through, is_preferred, is_repeated}
+use Rattle.router_core.specs.Announcing.{is_announced}
+use Rattle.router_core.specs.Config.{Config}
 use Rattle.router_core.specs.Hearing.{Hearing, Heard}
 use Rattle.router_core.specs.Machine.{State}
 use Rattle.router_core.specs.Offers.{Offer, offer_at, prefix_named}
@@ -25,6 +27,7 @@ use Rattle.ripng_world.specs.World.{World}
 use Rattle.ripng_world.specs.declared.network.NetInterface.{NetInterface}
 use Rattle.ripng_world.specs.declared.event.Sent.{Sent}
 use Rattle.ripng_world.proofs.Each.{each_at_place}
+use Rattle.ripng_world.proofs.HealHearing.{AreFew}
 use Rattle.ripng_world.proofs.HealPlain.{IsClocked}
 use Rattle.ripng_world.proofs.Improving.{RouteAt}
 use Rattle.ripng_world.proofs.Members.{At, get_right}
@@ -158,8 +161,8 @@ module _ (net : Network) (known : Prefix6 → Type 0) (positive : IsPositive net
                 )
 
     -- what is told where all is found
-    pub told_full : (u : World) → TellsTruly u v → (number d : ℕ) → d ≤ m → Found net v d → SaidFull net u number d → SaidFull net v number d
-    told_full u tells number d few found full i x late is entries spelled e stands c tag walk reach le low =
+    pub told_full : AreFew net known → (u : World) → TellsTruly u v → (number d : ℕ) → d ≤ m → Found net v d → SaidFull net u number d → SaidFull net v number d
+    told_full fits u tells number d few found full i x late is entries spelled e stands c tag walk reach le low =
         elim (split i (length u.sent)) [
           | inl new ↦ of_new (get_right u.sent tells.0 i x new (ap (λ (ds : List Sent). slice_get ds i) (sym tells.1) ∙ is))
           | inr old ↦ full i x late (sent_before u v tells.0 tells.1 i x old is) entries spelled e stands c tag walk reach le low
@@ -170,7 +173,10 @@ module _ (net : Network) (known : Prefix6 → Type 0) (positive : IsPositive net
             let told : IsToldTruly v x = each_at_place (IsToldTruly v) tells.0 tells.2 a.0 x a.1 in
             let f = found x.router (prefix_named e) c tag walk reach le low in
             let at : map_of.get told.0.table (prefix_named e) ≡ Some f.0 = ap (λ (s : State). map_of.get s.table (prefix_named e)) (Some-same told.0 f.1.0 (sym told.1 ∙ f.1.1)) ∙ f.1.2 in
-            elim ((each_at_place (IsTrueOf told.0.table x.iface) entries (told.2 entries spelled) stands.0 e stands.1).full f.0 at) [
+            let s = orderly.states x.router told.0 told.1 in
+            let out : is_announced told.0.config x.iface (prefix_named e) ≡ true =
+            ap (λ (c : Config). is_announced c x.iface (prefix_named e)) s.config_is ∙ fits.taken.announced x.router x.iface s.node (prefix_named e) s.node_is (s.plain (prefix_named e) f.0 at).is_known in
+            elim ((each_at_place (IsTrueOf told.0.config told.0.table x.iface) entries (told.2 entries spelled) stands.0 e stands.1).full out f.0 at) [
               | inl same ↦ inl (subst (λ n. n ≤ c) (sym same) f.2)
               | inr learned ↦ inr (hidden x.router x.iface (prefix_named e) c (le_trans le few) low f.0 f.1 f.2 learned)
             ]

@@ -1,14 +1,16 @@
 -- Two gateways, each with fe80::1 at a link of its own, where its hosts are, and one link between them: a network, though no lab is made of
 -- it, since two of its interfaces have one address.
-use Rattle.std.proofs.Common.{◌≡◌, ℕ, zero, suc, ◌+◌, ◌<◌, ◌≤◌, ◌==◌, false, cond, [], ◌∷◌, Some, slice_get, refl, ap, ap₂, sym, subst, ◌∙◌, arith, IsTrue}
+use Rattle.std.proofs.Common.{◌≡◌, ℕ, zero, suc, ◌+◌, ◌<◌, ◌≤◌, ◌==◌, true, false, cond, [], ◌∷◌, Some, slice_get, refl, ap, ap₂, sym, subst, ◌∙◌, arith, IsTrue, IsFalse}
 use Rattle.prefix6.specs.Addr.{is_link_local}
 use Rattle.prefix6.specs.Prefix.{Prefix6}
 use Rattle.route_table.specs.Route.{infinity}
 use Rattle.route_table.proofs.TableLaws.{Some-same, None-Some}
-use Rattle.ripng_world.specs.Network.{Network, Node, Owns, HasDistinctAddresses, IsNetwork, interface_at}
+use Rattle.ripng_world.specs.Convergence.{AreLetThrough, IsNeverQuiet}
+use Rattle.ripng_world.specs.Network.{Network, Node, HasNoLists, HaveNoLists, Owns, HasDistinctAddresses, IsNetwork, interface_at}
 use Rattle.ripng_world.specs.NetworkFaults.{network_fault}
 use Rattle.ripng_world.specs.declared.network.NetInterface.{NetInterface}
 use Rattle.ripng_world.specs.declared.network.NetRefused.TheVariants.{AddressSharedInNetwork}
+use Rattle.ripng_world.proofs.LawfulNetworks.{active_without_lists, let_through_without_lists}
 
 -- fe80::n
 abbrev local : ℕ → ℕ
@@ -18,7 +20,7 @@ abbrev interface : ℕ → ℕ → NetInterface
 interface n link = record { interface = record { addr = local n; cost = 1; mtu = 1500; zone = 0 }; link = link }
 
 abbrev gateway : ℕ → ℕ → Node
-gateway n link = record { interfaces = interface 1 link ∷ interface n 3 ∷ []; prefixes = []; quiet = false; filters = []; limits = [] }
+gateway n link = record { interfaces = interface 1 link ∷ interface n 3 ∷ []; prefixes = []; quiet = false; filters = []; limits = []; passive = []; announcements = [] }
 
 abbrev pub gateways : Network
 gateways = gateway 17 1 ∷ gateway 18 2 ∷ []
@@ -96,3 +98,27 @@ is_network =
 
     long : (1280 ≤ 1500) × (1500 ≤ 65535)
     long = (omega arith, omega arith)
+
+-- they have no lists and no passive interface, so convergence and healing ask only that tables have room for what is owned
+without_lists : HaveNoLists gateways
+without_lists zero node is = subst HasNoLists (Some-same (gateway 17 1) node is) (refl, refl, refl, refl)
+without_lists (suc zero) node is = subst HasNoLists (Some-same (gateway 18 2) node is) (refl, refl, refl, refl)
+without_lists (suc (suc r)) node is = absurd (None-Some node is)
+
+never_quiet : IsNeverQuiet gateways
+never_quiet = active_without_lists gateways without_lists loud
+  where
+    loud : (r : ℕ) (node : Node) → slice_get gateways r ≡ Some node → IsFalse node.quiet
+    loud zero node is = ap (λ (n : Node). n.quiet) (sym (Some-same (gateway 17 1) node is))
+    loud (suc zero) node is = ap (λ (n : Node). n.quiet) (sym (Some-same (gateway 18 2) node is))
+    loud (suc (suc r)) node is = absurd (None-Some node is)
+
+let_through : (is_so : Prefix6 → Type 0) (number : ℕ) → AreLetThrough gateways is_so number
+let_through = let_through_without_lists gateways without_lists
+
+-- with one passive interface they are no such network
+one_passive : IsNeverQuiet (record (gateway 17 1) { passive = 0 ∷ [] } ∷ gateway 18 2 ∷ []) → ⊥
+one_passive noisy = clash (noisy 0 0 (record (gateway 17 1) { passive = 0 ∷ [] }) refl)
+  where
+    clash : true ≡ false → ⊥
+    clash e = cc

@@ -24,7 +24,7 @@ use Rattle.router_core.specs.declared.answer.NoteKind.{NoteKind}
 use Rattle.router_core.specs.declared.answer.NoteKind.TheVariants.{TableFull, NoMemory, BadLength, BadPrefix, BadMetric}
 use Rattle.router_core.proofs.HearingSteps.{heard_one, before_all, after_one, at_place, table_after}
 use Rattle.ripng_world.specs.Network.{Network, Node, config_of, HasDistinctAddresses}
-use Rattle.ripng_world.specs.Convergence.{AreTaken}
+use Rattle.ripng_world.specs.Convergence.{AreLetThrough}
 use Rattle.ripng_world.specs.Truth.{IsNeighbor}
 use Rattle.ripng_world.specs.World.{World}
 use Rattle.ripng_world.proofs.Improving.{RouteAt}
@@ -38,7 +38,7 @@ pub record AreFew (net : Network) (known : Prefix6 → Type 0) : Type 0 where
   pub all : (p : Prefix6) → known p → Contains owned p
   pub prefixes : (p : Prefix6) → known p → IsPrefix p
   pub routable : (p : Prefix6) → known p → is_routable p ≡ true
-  pub taken : AreTaken net known (length owned)
+  pub taken : AreLetThrough net known (length owned)
 
 -- an entry tells a route that the sender has after the ticks
 pub record IsToldLine (net : Network) (mid : World) (known : Prefix6 → Type 0) (sender sender_iface : ℕ) (e : Rte) : Type 0 where

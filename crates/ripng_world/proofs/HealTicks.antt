@@ -13,6 +13,7 @@ use Rattle.route_table.specs.Route.{RouteValue, infinity}
 use Rattle.route_table.specs.declared.route.Clock.{Clock}
 use Rattle.route_table.specs.declared.route.Clock.TheVariants.{Fixed, Live, Dying}
 use Rattle.route_table.proofs.TableLaws.{Some-same, None-Some, all_entries, get-map_values}
+use Rattle.router_core.specs.Announcing.{is_announced, is_passive}
 use Rattle.router_core.specs.Config.{Config, mtu_at}
 use Rattle.router_core.specs.Adoption.{lost}
 use Rattle.router_core.specs.Ageing.{aged, aged_by_clock, aged_table, unmarked, without_mark}
@@ -30,6 +31,7 @@ use Rattle.ripng_world.specs.Network.{Network, Node, config_of, interface_at, Is
 use Rattle.ripng_world.specs.World.{World, Event, Deliver, Stranger, Tick, Restart, Shutdown, LinkDown, LinkUp, Reconfigure, RouterMoves, sent_by}
 use Rattle.ripng_world.specs.Rounds.{IsDueTick, AllTick, router_of}
 use Rattle.ripng_world.specs.Convergence.{IsNeverQuiet}
+use Rattle.ripng_world.proofs.Announced.{told_whole}
 use Rattle.ripng_world.proofs.Each.{each_filter, each_take, each_drop, each_append, each_mapped, each_image, each_flat, each_weaker}
 use Rattle.ripng_world.proofs.Members.{At, at_map, at_left, at_right, at_flat, at_filter, at_entries, in_joined}
 use Rattle.ripng_world.proofs.WorldRuns.{get_map, in_node, get_set}
@@ -141,8 +143,9 @@ module _ (net : Network) (usable : IsUsable net) (noisy : IsNeverQuiet net) (kno
       updates = flat_map (λ u. responses s.config u.0 Group (told u.0 every_route (aged_table n s.table))) (enumerate_from 0 s.config.interfaces)
 
       updates_are : update_messages s.config every_route (aged_table n s.table) ≡ updates
-      updates_are = ap (λ b. cond b [] (flat_map (λ u. responses s.config u.0 Group (told u.0 every_route (aged_table n s.table))) (enumerate_from 0 s.config.interfaces)))
-          (ap (λ (c : Config). c.quiet) t.config_is ∙ noisy router t.node t.node_is)
+      updates_are =
+          told_whole s.config every_route (aged_table n s.table) (λ iface. ap (λ (c : Config). is_passive c iface) t.config_is ∙ noisy router iface t.node t.node_is)
+          (λ iface p r at. ap (λ (c : Config). is_announced c iface p) t.config_is ∙ fits.taken.announced router iface t.node p t.node_is (aged_row p r at).is_known)
 
       updates_told : AllByRecursion IsUpdateMessage updates
       updates_told =

@@ -9,6 +9,7 @@ use Rattle.route_table.specs.declared.route.Origin.TheVariants.{Own, Learned}
 use Rattle.route_table.specs.declared.route.Clock.{Clock}
 use Rattle.route_table.specs.declared.route.Clock.TheVariants.{Fixed, Live, Dying}
 use Rattle.route_table.proofs.TableLaws.{Some-same, None-Some}
+use Rattle.router_core.specs.Announcing.{is_passive}
 use Rattle.router_core.specs.Config.{Config}
 use Rattle.router_core.specs.Timers.{timeout}
 use Rattle.router_core.specs.Machine.{State, Arrives}
@@ -20,7 +21,7 @@ use Rattle.ripng_world.specs.Healing.{AreWithinGarbageTime, AreHealed, FitsTable
 use Rattle.ripng_world.specs.Asked.{Asked}
 use Rattle.ripng_world.specs.Labs.{HasRun}
 use Rattle.ripng_world.proofs.AskedSynchronous.{made_synchronous, as_many}
-use Rattle.ripng_world.specs.Network.{Network, Node, IsNetwork, Owns, interface_at}
+use Rattle.ripng_world.specs.Network.{Network, Node, IsNetwork, Owns, config_of, interface_at}
 use Rattle.ripng_world.specs.World.{World, Event, Deliver, Stranger, Tick, Restart, Shutdown, LinkDown, LinkUp, Reconfigure, RouterMoves, Happens, WorldRun, IsCold, past_of, address_at, arrival_of}
 use Rattle.ripng_world.specs.Rounds.{Round, IsDeliveryOf, AllTick, AllHeard, IsSynchronousRound, SynchronousRounds, events_of_rounds}
 use Rattle.ripng_world.specs.Past.{IsBackedSince}
@@ -29,7 +30,7 @@ use Rattle.ripng_world.proofs.Each.{each_at_place}
 use Rattle.ripng_world.proofs.HealHearing.{AreFew}
 use Rattle.ripng_world.proofs.HealStates.{IsSteady, IsSteadyBy}
 use Rattle.ripng_world.proofs.HealMany.{AreToGateways, IsToGateway, heals}
-use Rattle.ripng_world.proofs.NetworkNow.{AreAlike, alike_back, linked_alike, now_alike, now_lawful, now_zoned, place_of, taken_alike, IsLawfulChange}
+use Rattle.ripng_world.proofs.NetworkNow.{AreAlike, alike_back, linked_alike, now_alike, passive_alike, passive_of, now_lawful, now_zoned, place_of, taken_alike, IsLawfulChange}
 use Rattle.ripng_world.proofs.Reached.{IsKnown, IsReachedBy}
 use Rattle.ripng_world.proofs.ReachedRuns.{AreReached, IsReachedState}
 use Rattle.ripng_world.proofs.ReachedWorlds.{reached_from_cold}
@@ -89,11 +90,11 @@ module _ (net other : Network) (same : AreAlike net other) where
   rounds_alike (round ∷ rounds) w w' run = (run.0, round_alike w run.0 round run.1, rounds_alike rounds run.0 w' run.2)
 
   noisy_alike : IsNeverQuiet net → IsNeverQuiet other
-  noisy_alike noisy router node is = by_value (slice_get net router) refl (sym (ap (option_map (λ (n : Node). n.quiet)) is) ∙ same.quiet router)
+  noisy_alike noisy router iface node is = by_value (slice_get net router) refl (sym (ap (option_map passive_of) is) ∙ same.passive router)
     where
-      by_value : (o : Option Node) → slice_get net router ≡ o → Some node.quiet ≡ option_map (λ (n : Node). n.quiet) o → IsFalse node.quiet
-      by_value None at e = absurd (None-Some node.quiet (sym e))
-      by_value (Some n) at e = Some-same node.quiet n.quiet e ∙ noisy router n at
+      by_value : (o : Option Node) → slice_get net router ≡ o → Some (passive_of node) ≡ option_map passive_of o → IsFalse (is_passive (config_of node) iface)
+      by_value None at e = absurd (None-Some (passive_of node) (sym e))
+      by_value (Some n) at e = passive_alike iface n node (sym (Some-same (passive_of node) (passive_of n) e)) (noisy router iface n at)
 
 -- ---- rounds change no configuration
 
@@ -164,7 +165,7 @@ module _ (net : Network) (is_net : IsNetwork net) (w : World) (all : AreReached 
               steady = λ p r at. by_clock router s t p r r.clock (t.reached.rows p r at).reached;
               owned = λ p tag owns. t.reached.owned p tag (listed router s t p tag owns);
             };
-        everyone = λ router node is. there router node (slice_get net router) refl (sym ((now_alike w.reconfigurations net).quiet router) ∙ ap (option_map (λ (n : Node). n.quiet)) is);
+        everyone = λ router node is. there router node (slice_get net router) refl (sym ((now_alike w.reconfigurations net).passive router) ∙ ap (option_map passive_of) is);
       }
     where
       listed : (router : ℕ) (s : State) (t : IsReachedState net w.reconfigurations router s) (p : Prefix6) (tag : ℕ) → Owns (network_now (past_of net w)) router p tag → (i : ℕ) × (slice_get s.config.prefixes i ≡ Some (p, tag))
@@ -186,8 +187,8 @@ module _ (net : Network) (is_net : IsNetwork net) (w : World) (all : AreReached 
           soon : (u l g : ℕ) → u ≤ l + timeout → u + 15_000 ≤ max l g + 15_000 * 13
           soon u l g h = omega arith
 
-      there : (router : ℕ) (node : Node) (o : Option Node) → slice_get net router ≡ o → option_map (λ (n : Node). n.quiet) o ≡ Some node.quiet → (s : State) × (slice_get w.states router ≡ Some s)
-      there router node None is e = absurd (None-Some node.quiet e)
+      there : (router : ℕ) (node : Node) (o : Option Node) → slice_get net router ≡ o → option_map passive_of o ≡ Some (passive_of node) → (s : State) × (slice_get w.states router ≡ Some s)
+      there router node None is e = absurd (None-Some (passive_of node) e)
       there router node (Some n) is e = all.everyone router n is
 
   pub heals_here : IsNeverQuiet net → (rounds : List Round) (end : World) → SynchronousRounds net w rounds end → AreWithinGarbageTime rounds → 26 ≤ length rounds → AreToGateways end → AreHealed (network_now (past_of net end)) end

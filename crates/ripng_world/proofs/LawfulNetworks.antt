@@ -1,5 +1,5 @@
 -- A network that fails no test is one.
-use Rattle.std.proofs.Common.{◌≡◌, ℕ, zero, suc, ◌+◌, ◌<◌, ◌≤◌, ◌==◌, ◌||◌, nat_lt, not, Bool, true, false, cond, List, [], ◌∷◌, ◌++◌, map, take, length, All, Some, None, slice_get, option_map, refl, ap, sym, subst, ◌∙◌, arith}
+use Rattle.std.proofs.Common.{◌≡◌, ℕ, zero, suc, ◌+◌, ◌<◌, ◌≤◌, ◌==◌, ◌||◌, nat_lt, not, Bool, true, false, cond, List, [], ◌∷◌, ◌++◌, map, take, length, All, Some, None, slice_get, option_map, refl, ap, sym, subst, ◌∙◌, arith, IsFalse}
 use Rattle.std.specs.List.{list_any}
 use Rattle.std.proofs.lemmas.Bool.{eq-eqb, eqb-true}
 use Rattle.std.proofs.lemmas.Bool.Decides.{nat_tests}
@@ -11,6 +11,7 @@ use Rattle.ripng_wire.proofs.FirstReason.{EachPasses, each_passes}
 use Rattle.route_table.proofs.TableLaws.{Some-same, None-Some}
 use Rattle.router_core.specs.Config.{Config, config_with, IsConfig, config_reasons, reasons_of_each, interface_reasons, prefix_reasons}
 use Rattle.router_core.specs.Filters.{is_accepted, limit_at}
+use Rattle.router_core.specs.Lists.{lets_through}
 use Rattle.router_core.specs.declared.filter.Filter.{Filter}
 use Rattle.router_core.specs.declared.filter.Limit.{Limit}
 use Rattle.router_core.specs.declared.config.ConfigRefused.TheVariants.{TooManyPrefixes}
@@ -18,7 +19,7 @@ use Rattle.router_core.specs.declared.config.Interface.{Interface}
 use Rattle.router_core.specs.Config.{owned_limit}
 use Rattle.router_core.proofs.ConfigLaws.{passes-append, passes_at, cost_low, cost_high, mtu_low, mtu_high}
 use Rattle.router_core.proofs.ReasonsOfEach.{first_reason-append, first_reason-found}
-use Rattle.ripng_world.specs.Convergence.{AreTaken}
+use Rattle.ripng_world.specs.Convergence.{AreLetThrough, IsNeverQuiet}
 use Rattle.ripng_world.specs.Network.{Network, Node, HasNoLists, HaveNoLists, AreZoned, IsNetwork, IsUsable, OwnsPrefixes, HasDistinctAddresses, config_of, interface_at}
 use Rattle.ripng_world.specs.NetworkFaults.{addresses, address_reasons, names_zone, network_fault, network_reasons, router_reasons, router_limit}
 use Rattle.ripng_world.specs.declared.network.NetInterface.{NetInterface}
@@ -161,16 +162,22 @@ none_at test (y ∷ ys) (suc i) x none is = none_at test ys i x (neither (test y
 pub zones_of_one : (net : Network) (zone : ℕ) → ((r i : ℕ) (a : NetInterface) → interface_at net r i ≡ Some a → a.interface.zone ≡ zone) → AreZoned net
 zones_of_one net zone all r i j l = all r i l.here l.here_is ∙ sym (all r j l.there l.there_is)
 
--- ---- filters and limits
+-- ---- filters, limits and passive interfaces
 
--- where there are none, all routes are taken, so that convergence and healing ask only for room
-pub taken_without_lists : (net : Network) → HaveNoLists net → (is_so : Prefix6 → Type 0) (number : ℕ) → AreTaken net is_so number
-taken_without_lists net none is_so number =
+-- where there are none, all routes are taken and announced, so that convergence and healing ask only for room
+pub let_through_without_lists : (net : Network) → HaveNoLists net → (is_so : Prefix6 → Type 0) (number : ℕ) → AreLetThrough net is_so number
+let_through_without_lists net none is_so number =
     record {
       accepted = λ router iface node p is so. ap (λ (fs : List Filter). is_accepted (config_with [] [] false fs []) iface p) (none router node is).0;
+      announced = λ router iface node p is so. ap (λ (fs : List Filter). lets_through fs iface p) (none router node is).3;
       within = λ router iface limit node is at.
           absurd (None-Some limit (sym (ap (λ (ls : List Limit). limit_at (config_with [] [] false [] ls) iface) (none router node is).1) ∙ at));
     }
+
+-- and no interface is passive but those of a quiet router
+pub active_without_lists : (net : Network) → HaveNoLists net → ((router : ℕ) (node : Node) → slice_get net router ≡ Some node → IsFalse node.quiet) → IsNeverQuiet net
+active_without_lists net none loud router iface node is =
+    ap (λ (ns : List ℕ). node.quiet || list_any (λ n. n == iface) ns) (none router node is).2 ∙ ap (λ b. b || false) (loud router node is)
 
 -- ---- all together: no address twice is more than a network needs
 

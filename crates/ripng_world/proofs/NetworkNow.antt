@@ -1,6 +1,6 @@
 -- The network as changes have left it: lawful where they are, and of the same routers, links and addresses.
-use Rattle.std.proofs.Common.{◌≡◌, ◌⊎◌, inl, inr, ℕ, zero, suc, ◌<◌, ◌≤◌, ◌==◌, Bool, true, false, cond, not, List, [], ◌∷◌, ◌++◌, map, filter, length, Option, Some, None, option_map, option_and_then, unwrap_or, slice_get, slice_set, refl, ap, sym, subst, ◌∙◌, arith, IsTrue}
-use Rattle.std.specs.List.{AllByRecursion}
+use Rattle.std.proofs.Common.{◌≡◌, ◌⊎◌, inl, inr, ℕ, zero, suc, ◌<◌, ◌≤◌, ◌==◌, Bool, true, false, cond, not, List, [], ◌∷◌, ◌++◌, map, filter, length, Option, Some, None, option_map, option_and_then, unwrap_or, slice_get, slice_set, refl, ap, sym, subst, ◌∙◌, arith, IsTrue, ◌||◌, IsFalse}
+use Rattle.std.specs.List.{AllByRecursion, list_any}
 use Rattle.std.proofs.lemmas.Bool.{eq-eqb, eqb-true}
 use Rattle.std.proofs.lemmas.Bool.Decides.{nat_tests}
 use Rattle.std.proofs.lemmas.List.Sums.{fold-append}
@@ -8,8 +8,10 @@ use Rattle.prefix6.specs.Addr.{is_link_local}
 use Rattle.prefix6.specs.Prefix.{Prefix6, IsPrefix, is_routable, same_prefix}
 use Rattle.route_table.specs.Route.{infinity}
 use Rattle.route_table.proofs.TableLaws.{Some-same, None-Some}
-use Rattle.router_core.specs.Config.{config_with}
+use Rattle.router_core.specs.Announcing.{is_passive}
+use Rattle.router_core.specs.Config.{announcing, config_with}
 use Rattle.router_core.specs.Filters.{is_accepted, limit_at}
+use Rattle.router_core.specs.Lists.{lets_through}
 use Rattle.router_core.specs.Reconfiguring.{with_cost, reconfigured_config}
 use Rattle.router_core.specs.declared.config.Interface.{Interface}
 use Rattle.router_core.specs.declared.filter.Filter.{Filter}
@@ -17,7 +19,7 @@ use Rattle.router_core.specs.declared.filter.Limit.{Limit}
 use Rattle.router_core.specs.declared.reconfiguring.Change.{Change}
 use Rattle.router_core.specs.declared.reconfiguring.Change.TheVariants.{Cost, Own, Disown}
 use Rattle.ripng_world.specs.declared.network.NetInterface.{NetInterface}
-use Rattle.ripng_world.specs.Convergence.{AreTaken}
+use Rattle.ripng_world.specs.Convergence.{AreLetThrough}
 use Rattle.ripng_world.specs.Healing.{with_link_cost, reconfigured_node, reconfigured_network, network_now}
 use Rattle.ripng_world.specs.Network.{Network, Node, AreLinked, AreZoned, IsNetwork, Owns, config_of, interface_at}
 use Rattle.ripng_world.proofs.Members.{At, split_at}
@@ -29,26 +31,30 @@ use Rattle.ripng_world.proofs.WorldRuns.{get_set, in_node}
 abbrev pub place_of : NetInterface → ℕ × ℕ × ℕ × ℕ
 place_of i = (i.link, i.interface.addr, i.interface.mtu, i.interface.zone)
 
--- what keeps routes out of a router
-abbrev lists_of : Node → List Filter × List Limit
-lists_of node = (node.filters, node.limits)
+-- what keeps routes out of a router, or in it
+abbrev lists_of : Node → List Filter × List Limit × List Filter
+lists_of node = (node.filters, node.limits, node.announcements)
 
--- as many routers, each with the same interfaces but for their costs, as quiet, and with the same filters and limits
+-- which interfaces are passive
+abbrev pub passive_of : Node → Bool × List ℕ
+passive_of node = (node.quiet, node.passive)
+
+-- as many routers, each with the same interfaces but for their costs, of which the same are passive, and with the same filters and limits
 pub record AreAlike (net other : Network) : Type 0 where
   pub size : length other ≡ length net
   pub places : (router iface : ℕ) → option_map place_of (interface_at other router iface) ≡ option_map place_of (interface_at net router iface)
-  pub quiet : (router : ℕ) → option_map (λ (n : Node). n.quiet) (slice_get other router) ≡ option_map (λ (n : Node). n.quiet) (slice_get net router)
+  pub passive : (router : ℕ) → option_map passive_of (slice_get other router) ≡ option_map passive_of (slice_get net router)
   pub lists : (router : ℕ) → option_map lists_of (slice_get other router) ≡ option_map lists_of (slice_get net router)
 
 pub alike_trans : (a b c : Network) → AreAlike a b → AreAlike b c → AreAlike a c
 alike_trans a b c x y =
-    record { size = y.size ∙ x.size; places = λ r i. y.places r i ∙ x.places r i; quiet = λ r. y.quiet r ∙ x.quiet r; lists = λ r. y.lists r ∙ x.lists r }
+    record { size = y.size ∙ x.size; places = λ r i. y.places r i ∙ x.places r i; passive = λ r. y.passive r ∙ x.passive r; lists = λ r. y.lists r ∙ x.lists r }
 
 pub alike_refl : (a : Network) → AreAlike a a
-alike_refl a = record { size = refl; places = λ r i. refl; quiet = λ r. refl; lists = λ r. refl }
+alike_refl a = record { size = refl; places = λ r i. refl; passive = λ r. refl; lists = λ r. refl }
 
 pub alike_back : (a b : Network) → AreAlike a b → AreAlike b a
-alike_back a b x = record { size = sym x.size; places = λ r i. sym (x.places r i); quiet = λ r. sym (x.quiet r); lists = λ r. sym (x.lists r) }
+alike_back a b x = record { size = sym x.size; places = λ r i. sym (x.places r i); passive = λ r. sym (x.passive r); lists = λ r. sym (x.lists r) }
 
 -- the interface of the other network
 pub record IsPlaced (other : Network) (router iface : ℕ) (i : NetInterface) : Type 0 where
@@ -89,13 +95,18 @@ zoned_alike net other same zoned r i j l =
     ∙ zoned r i j (record { here = x.there; there = y.there; here_is = x.there_is; there_is = y.there_is; same_link = x.link ∙ l.same_link ∙ sym y.link })
     ∙ y.zone
 
-pub taken_alike : (net other : Network) → AreAlike net other → (is_so : Prefix6 → Type 0) (number : ℕ) → AreTaken net is_so number → AreTaken other is_so number
+pub passive_alike : (iface : ℕ) (old new : Node) → passive_of old ≡ passive_of new → IsFalse (is_passive (config_of old) iface) → IsFalse (is_passive (config_of new) iface)
+passive_alike iface old new same none = sym (ap (λ (x : Bool × List ℕ). x.0 || list_any (λ n. n == iface) x.1) same) ∙ none
+
+pub taken_alike : (net other : Network) → AreAlike net other → (is_so : Prefix6 → Type 0) (number : ℕ) → AreLetThrough net is_so number → AreLetThrough other is_so number
 taken_alike net other same is_so number taken =
     record {
       accepted = λ router iface node p is so. let t = there router node is in
-          subst (λ (fs : List Filter). is_accepted (config_with [] [] false fs []) iface p ≡ true) (ap (λ (x : List Filter × List Limit). x.0) t.2) (taken.accepted router iface t.0 p t.1 so);
+          subst (λ (fs : List Filter). is_accepted (config_with [] [] false fs []) iface p ≡ true) (ap (λ (x : List Filter × List Limit × List Filter). x.0) t.2) (taken.accepted router iface t.0 p t.1 so);
+      announced = λ router iface node p is so. let t = there router node is in
+          subst (λ (fs : List Filter). lets_through fs iface p ≡ true) (ap (λ (x : List Filter × List Limit × List Filter). x.2) t.2) (taken.announced router iface t.0 p t.1 so);
       within = λ router iface limit node is at. let t = there router node is in
-          taken.within router iface limit t.0 t.1 (ap (λ (x : List Filter × List Limit). limit_at (config_with [] [] false [] x.1) iface) t.2 ∙ at);
+          taken.within router iface limit t.0 t.1 (ap (λ (x : List Filter × List Limit × List Filter). limit_at (config_with [] [] false [] x.1) iface) t.2 ∙ at);
     }
   where
     there : (router : ℕ) (node : Node) → slice_get other router ≡ Some node → (old : Node) × (slice_get net router ≡ Some old) × (lists_of old ≡ lists_of node)
@@ -165,10 +176,10 @@ node_lists node (Cost iface cost) = refl
 node_lists node (Own p tag) = refl
 node_lists node (Disown p) = refl
 
-node_quiet : (node : Node) (c : Change) → (reconfigured_node node c).quiet ≡ node.quiet
-node_quiet node (Cost iface cost) = refl
-node_quiet node (Own p tag) = refl
-node_quiet node (Disown p) = refl
+node_passive : (node : Node) (c : Change) → passive_of (reconfigured_node node c) ≡ passive_of node
+node_passive node (Cost iface cost) = refl
+node_passive node (Own p tag) = refl
+node_passive node (Disown p) = refl
 
 node_costs : (node : Node) (c : Change) → IsLawfulChange c → (j : ℕ) (i : NetInterface) → slice_get (reconfigured_node node c).interfaces j ≡ Some i
     → ((1 ≤ i.interface.cost) × (i.interface.cost < infinity)) ⊎ (slice_get node.interfaces j ≡ Some i)
@@ -215,7 +226,7 @@ node_prefixes node (Own p tag) t a =
 pub changed_alike : (node : Node) (c : Change) → config_of (reconfigured_node node c) ≡ reconfigured_config (config_of node) c
 changed_alike node (Own p tag) = refl
 changed_alike node (Disown p) = refl
-changed_alike node (Cost iface cost) = ap (λ (is : List Interface). config_with is node.prefixes node.quiet node.filters node.limits) (by_value (slice_get node.interfaces iface) refl)
+changed_alike node (Cost iface cost) = ap (λ (is : List Interface). announcing (config_with is node.prefixes node.quiet node.filters node.limits) node.passive node.announcements) (by_value (slice_get node.interfaces iface) refl)
   where
     bare : NetInterface → Interface
     bare i = i.interface
@@ -273,7 +284,7 @@ module _ (net : Network) (router : ℕ) (c : Change) where
           by_place false e = same (slice_get net r)
 
   pub change_alike : AreAlike net (reconfigured_network net (router, c))
-  change_alike = record { size = by_value (slice_get net router); places = places; quiet = quiet; lists = lists }
+  change_alike = record { size = by_value (slice_get net router); places = places; passive = passive; lists = lists }
     where
       by_value : (o : Option Node) → length (unwrap_or (option_map (λ node. slice_set net router (reconfigured_node node c)) o) net) ≡ length net
       by_value None = refl
@@ -288,12 +299,12 @@ module _ (net : Network) (router : ℕ) (c : Change) where
           at (Some node) true = node_places node c iface
           at (Some node) false = refl
 
-      quiet : (r : ℕ) → option_map (λ (n : Node). n.quiet) (slice_get (reconfigured_network net (router, c)) r) ≡ option_map (λ (n : Node). n.quiet) (slice_get net r)
-      quiet r = ap (option_map (λ (n : Node). n.quiet)) (changed_at r) ∙ at (slice_get net r) (router == r)
+      passive : (r : ℕ) → option_map passive_of (slice_get (reconfigured_network net (router, c)) r) ≡ option_map passive_of (slice_get net r)
+      passive r = ap (option_map passive_of) (changed_at r) ∙ at (slice_get net r) (router == r)
         where
-          at : (o : Option Node) (b : Bool) → option_map (λ (n : Node). n.quiet) (option_map (λ node. cond b (reconfigured_node node c) node) o) ≡ option_map (λ (n : Node). n.quiet) o
+          at : (o : Option Node) (b : Bool) → option_map passive_of (option_map (λ node. cond b (reconfigured_node node c) node) o) ≡ option_map passive_of o
           at None b = refl
-          at (Some node) true = ap Some (node_quiet node c)
+          at (Some node) true = ap Some (node_passive node c)
           at (Some node) false = refl
 
       lists : (r : ℕ) → option_map lists_of (slice_get (reconfigured_network net (router, c)) r) ≡ option_map lists_of (slice_get net r)

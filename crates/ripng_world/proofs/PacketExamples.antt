@@ -25,7 +25,7 @@ abbrev facing : ℕ → NetInterface
 facing addr = record { interface = record { addr = addr; cost = 1; mtu = 1500; zone = 0 }; link = 7 }
 
 abbrev net : Network
-net = record { interfaces = facing 1 ∷ []; prefixes = []; quiet = false; filters = []; limits = [] } ∷ record { interfaces = facing 2 ∷ []; prefixes = (all, 0) ∷ []; quiet = false; filters = []; limits = [] } ∷ []
+net = record { interfaces = facing 1 ∷ []; prefixes = []; quiet = false; filters = []; limits = []; passive = []; announcements = [] } ∷ record { interfaces = facing 2 ∷ []; prefixes = (all, 0) ∷ []; quiet = false; filters = []; limits = []; passive = []; announcements = [] } ∷ []
 
 abbrev entry : FibHop → Forward
 entry hop = record { hop = hop; metric = 2 }

@@ -12,7 +12,7 @@ use Rattle.ripng_world.specs.Rounds.{Round, SynchronousRounds, events_of_rounds}
 use Rattle.ripng_world.specs.World.{World, Event, WorldRun, IsCold, past_of}
 use Rattle.ripng_world.proofs.AskedSynchronous.{as_many, made_synchronous}
 use Rattle.ripng_world.proofs.Healed.{heals_after}
-use Rattle.ripng_world.proofs.NetworkNow.{now_alike, now_lawful}
+use Rattle.ripng_world.proofs.NetworkNow.{now_alike, now_lawful, passive_of}
 use Rattle.ripng_world.proofs.PacketsHealed.{all_arrive}
 use Rattle.ripng_world.proofs.ReachedRuns.{AreReached}
 use Rattle.ripng_world.proofs.ReachedWorlds.{reached_from_cold}
@@ -27,10 +27,10 @@ arrive_in_run net is_net moments events cold w is run healed = all_arrive (netwo
     reached = reached_from_cold net is_net moments events cold w is run
 
     there : AreThere (network_now (past_of net w)) w
-    there router node here = by_value (slice_get net router) refl (sym ((now_alike w.reconfigurations net).quiet router) ∙ ap (option_map (λ (n : Node). n.quiet)) here)
+    there router node here = by_value (slice_get net router) refl (sym ((now_alike w.reconfigurations net).passive router) ∙ ap (option_map passive_of) here)
       where
-        by_value : (o : Option Node) → slice_get net router ≡ o → option_map (λ (n : Node). n.quiet) o ≡ Some node.quiet → (s : State) × (slice_get w.states router ≡ Some s)
-        by_value None at e = absurd (None-Some node.quiet e)
+        by_value : (o : Option Node) → slice_get net router ≡ o → option_map passive_of o ≡ Some (passive_of node) → (s : State) × (slice_get w.states router ≡ Some s)
+        by_value None at e = absurd (None-Some (passive_of node) e)
         by_value (Some n) at e = reached.everyone router n at
 
 pub arrive_after : (net : Network) (moments : List ℕ) (events : List Event) (rounds : List Round) (cold w end : World)

@@ -22,7 +22,7 @@ use Rattle.router_core.specs.declared.answer.NoteKind.TheVariants.{NotAccepted, 
 use Rattle.router_core.proofs.Counting.{brought_is_held, held_by-add, held_by-replace}
 use Rattle.router_core.proofs.HearingSteps.{table_after}
 use Rattle.ripng_world.specs.Network.{Network, Node, config_of}
-use Rattle.ripng_world.specs.Convergence.{AreTaken}
+use Rattle.ripng_world.specs.Convergence.{AreLetThrough}
 
 -- ---- a table of owned prefixes has no more routes than there are owned prefixes
 
@@ -81,7 +81,7 @@ not_by false true c e = absurd (cc)
 not_by false false c e = refl
 
 module _ (h : Hearing) (net : Network) (router : ℕ) (node : Node) (node_is : slice_get net router ≡ Some node) (config_is : h.config ≡ config_of node)
-    (known : Prefix6 → Type 0) (qs : List Prefix6) (lists : AreTaken net known (length qs))
+    (known : Prefix6 → Type 0) (qs : List Prefix6) (lists : AreLetThrough net known (length qs))
     (place : ℕ) (within : place ≤ length h.entries) (keys : (p : Prefix6) (r : RouteValue) → route_after h place p ≡ Some r → IsIn p qs)
     (e : Rte) (is_known : known (prefix_named e)) (is_in : IsIn (prefix_named e) qs) where
   abbrev now : Table

@@ -89,7 +89,7 @@ module _ (net : Network) (usable : IsUsable net) (owns : OwnsPrefixes net) (nois
   close : (router x y : ℕ) → both router x → current router y → y < x + timeout
   close router x y a b = (close_both router x y a b).1
 
-  begins : AreTicking net usable owns noisy w k both current close w []
+  begins : AreTicking net usable owns noisy fits w k both current close w []
   begins =
       record {
         states = λ router s is. let t = settled.states router s is in
@@ -106,8 +106,8 @@ module _ (net : Network) (usable : IsUsable net) (owns : OwnsPrefixes net) (nois
         all_updates = tt;
       }
 
-  ticked : IsAfterTicks net usable owns noisy w k both current close [] round.ticks synchronous.after_ticks
-  ticked = ticks_done net usable owns noisy w k both current close round.ticks w synchronous.after_ticks [] begins (tick_moments round) synchronous.all_tick
+  ticked : IsAfterTicks net usable owns noisy fits w k both current close [] round.ticks synchronous.after_ticks
+  ticked = ticks_done net usable owns noisy fits w k both current close round.ticks w synchronous.after_ticks [] begins (tick_moments round) synchronous.all_tick
 
   abbrev new : List Sent
   new = [] ++ ticked.later
@@ -148,9 +148,9 @@ module _ (net : Network) (usable : IsUsable net) (owns : OwnsPrefixes net) (nois
   heard_from teller iface' p t at clean router iface linked other low =
       let inside : teller < length net = in_net (slice_get net teller) refl linked.here_is in
       let named = at_from_contains (map router_of round.ticks) teller (synchronous.each_ticks teller inside) in
-      let tells : TellsAll net usable owns noisy w k both current close new teller =
-      each_at_place (TellsAll net usable owns noisy w k both current close new) (map router_of round.ticks) ticked.all_tell named.0 teller named.1 in
-      let x : Tells net usable owns noisy w k both current close new teller iface' p = tells iface' linked.here linked.here_is p t at in
+      let tells : TellsAll net usable owns noisy fits w k both current close new teller =
+      each_at_place (TellsAll net usable owns noisy fits w k both current close new) (map router_of round.ticks) ticked.all_tell named.0 teller named.1 in
+      let x : Tells net usable owns noisy fits w k both current close new teller iface' p = tells iface' linked.here linked.here_is p t at in
       let place = get_past w.sent new x.sent x.stands in
       let linked' : AreLinked net x.sent.router x.sent.iface router iface =
       subst (λ r. AreLinked net r x.sent.iface router iface) (sym x.by_router) (subst (λ i. AreLinked net teller i router iface) (sym x.on_iface) linked) in

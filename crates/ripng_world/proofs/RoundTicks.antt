@@ -12,6 +12,7 @@ use Rattle.route_table.specs.Table.{Table}
 use Rattle.route_table.specs.declared.route.Origin.{Origin}
 use Rattle.route_table.specs.declared.route.Origin.TheVariants.{Own, Learned}
 use Rattle.route_table.proofs.TableLaws.{Some-same, None-Some, all_entries, get-map_values}
+use Rattle.router_core.specs.Announcing.{is_announced, is_passive}
 use Rattle.router_core.specs.Config.{Config, mtu_at}
 use Rattle.router_core.specs.Adoption.{lost}
 use Rattle.router_core.specs.Timers.{timeout}
@@ -31,7 +32,8 @@ use Rattle.ripng_world.specs.Walks.{Reaches, end_of}
 use Rattle.ripng_world.specs.World.{World, Event, Deliver, Stranger, Tick, Restart, Shutdown, LinkDown, LinkUp, Reconfigure, RouterMoves, sent_by}
 use Rattle.ripng_world.specs.Rounds.{IsDueTick, AllTick, router_of, moment_of}
 use Rattle.ripng_world.specs.Network.{IsUsable}
-use Rattle.ripng_world.specs.Convergence.{IsNeverQuiet}
+use Rattle.ripng_world.specs.Convergence.{FitsTables, IsNeverQuiet}
+use Rattle.ripng_world.proofs.Announced.{told_whole}
 use Rattle.ripng_world.proofs.Each.{each_filter, each_take, each_drop, each_append, each_mapped, each_image, each_flat, each_weaker}
 use Rattle.ripng_world.proofs.Members.{At, at_map, at_left, at_right, at_flat, at_filter, at_entries, in_joined}
 use Rattle.ripng_world.proofs.WorldRuns.{get_map, in_node, get_set}
@@ -111,7 +113,7 @@ spelled_at (n ∷ ms) (o ∷ os) s m a = by_place a.0 a.1 (λ i e. spelled_at ms
     by_place zero e later = (o, (0, refl), subst (λ x. IsSpelled x o) (Some-same n m e) s.0)
     by_place (suc i) e later = let l = later i e in (l.0, (suc l.1.0, l.1.1), l.2)
 
-module _ (net : Network) (usable : IsUsable net) (owns : OwnsPrefixes net) (noisy : IsNeverQuiet net) (base : World) (k : ℕ) (both current : ℕ → ℕ → Type 0)
+module _ (net : Network) (usable : IsUsable net) (owns : OwnsPrefixes net) (noisy : IsNeverQuiet net) (fits : FitsTables net) (base : World) (k : ℕ) (both current : ℕ → ℕ → Type 0)
     (close : (router x y : ℕ) → both router x → current router y → y < x + timeout) where
   -- a router during the ticks
   pub record IsTicking (router : ℕ) (s : State) : Type 0 where
@@ -198,8 +200,11 @@ module _ (net : Network) (usable : IsUsable net) (owns : OwnsPrefixes net) (nois
     updates = flat_map (λ u. responses s.config u.0 Group (told u.0 every_route (aged_table n s.table))) (enumerate_from 0 s.config.interfaces)
 
     updates_are : update_messages s.config every_route (aged_table n s.table) ≡ updates
-    updates_are = ap (λ b. cond b [] (flat_map (λ u. responses s.config u.0 Group (told u.0 every_route (aged_table n s.table))) (enumerate_from 0 s.config.interfaces)))
-        (ap (λ (c : Config). c.quiet) t.config_is ∙ noisy router t.node t.node_is)
+    updates_are =
+        told_whole s.config every_route (aged_table n s.table) (λ iface. ap (λ (c : Config). is_passive c iface) t.config_is ∙ noisy router iface t.node t.node_is)
+        (λ iface p r at. let f = t.fine p r (sym (aged_same p) ∙ at) in
+        ap (λ (c : Config). is_announced c iface p) t.config_is
+        ∙ fits.3.announced router iface t.node p t.node_is (end_of router f.walk, r.tag, f.reaches.owner))
 
     updates_told : AllByRecursion IsUpdateMessage updates
     updates_told =

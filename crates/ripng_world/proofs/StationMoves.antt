@@ -212,6 +212,22 @@ module _ (stations : List StationValue) (sent : List Sent) (reconfigurations : L
         subst (λ (n : ℕ). slice_get (map (λ (s : StationValue). s.state) stations) n ≡ Some old.state) is
         (slice_get-map (λ (s : StationValue). s.state) stations r ∙ ap (option_map (λ (s : StationValue). s.state)) here)
 
+    -- the event is placed there
+    pub placed_at : (ds : List Sent) → ds ≡ sent → IsPlaced old.node ds e
+    placed_at ds same =
+        let own = subst (λ (k : ℕ). slice_get (network_of stations) k ≡ Some old.node) is
+        (slice_get-map (λ (s : StationValue). s.node) stations r ∙ ap (option_map (λ (s : StationValue). s.node)) here) in
+        subst (λ (n : Node). IsPlaced n ds e) (Some-same placed.0 old.node (sym placed.1 ∙ own)) (subst (λ (zs : List Sent). IsPlaced placed.0 zs e) (sym same) placed.2)
+
+    -- where it stays as it is, so does the lab, and it is refused
+    pub unmoved : {T E : Type 0} (result : Result T E) (lab : LabValue) (new : StationValue) (sent' : List Sent) (reconfigurations' : List (ℕ × Change)) → lab_of stations sent reconfigurations ≡ lab
+        → new ≡ old → sent' ≡ sent → reconfigurations' ≡ reconfigurations → OnErr result (lab_of (slice_set stations r new) sent' reconfigurations' ≡ lab)
+    unmoved (Ok x) lab new sent' reconfigurations' lab_is same sents changes = tt
+    unmoved (Err why) lab new sent' reconfigurations' lab_is same sents changes =
+        ap (λ (ss : List StationValue). lab_of ss sent' reconfigurations') (ap (slice_set stations r) same ∙ slice_set_same stations r old here)
+        ∙ ap (λ (ds : List Sent). lab_of stations ds reconfigurations') sents
+        ∙ ap (λ (cs : List (ℕ × Change)). lab_of stations sent cs) changes ∙ lab_is
+
     pub acts : (new : StationValue) (source : ℕ) (answer given : Answer) (sent' : List Sent) (reconfigurations' : List (ℕ × Change)) → new.node ≡ old.node → length old.state.config.interfaces ≡ length old.node.interfaces
         → ((datagram router iface now : ℕ) (d : Sent) → e ≡ Deliver datagram router iface now → slice_get sent datagram ≡ Some d → source ≡ address_at (network_of stations) d.router d.iface)
         → ((h : Happening) → IsFor (λ _. source) sent e h → Moves old.state h answer new.state)

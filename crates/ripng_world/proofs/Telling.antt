@@ -1,5 +1,5 @@
 -- A router with a sound table sends only true entries.
-use Rattle.std.proofs.Common.{◌≡◌, ℕ, ◌+◌, ◌*◌, ◌-◌, ◌/◌, ◌<◌, ◌≤◌, Bool, true, false, cond, ◌&&◌, ◌==◌, MatchBool, MatchOption, max, nat_le, nat_lt, List, [], ◌∷◌, map, drop, length, flat_map, slice_range, Option, Some, None, refl, ap, sym, subst, arith, le_refl}
+use Rattle.std.proofs.Common.{◌≡◌, ℕ, ◌+◌, ◌*◌, ◌-◌, ◌/◌, ◌<◌, ◌≤◌, Bool, true, false, cond, ◌&&◌, ◌==◌, MatchBool, MatchOption, max, nat_le, nat_lt, List, [], ◌∷◌, map, drop, length, slice_range, Option, Some, None, refl, ap, sym, subst, arith, le_refl}
 use Rattle.std.specs.List.{AllByRecursion, enumerate_from}
 use Rattle.std.specs.FinMap as map_of
 use Rattle.prefix6.specs.Prefix.{Prefix6, cleared}
@@ -13,12 +13,14 @@ use Rattle.route_table.specs.Table.{Table}
 use Rattle.route_table.specs.declared.route.Clock.{Clock}
 use Rattle.route_table.specs.declared.route.Clock.TheVariants.{Fixed, Live, Dying}
 use Rattle.route_table.proofs.TableLaws.{all_entries, at_map_values, Some-same, None-Some}
+use Rattle.router_core.specs.Announcing.{announced, is_announced, is_passive}
 use Rattle.router_core.specs.Config.{Config, mtu_at}
+use Rattle.router_core.specs.Offers.{prefix_named}
 use Rattle.router_core.specs.Received.{Received}
 use Rattle.router_core.specs.Faults.{fault, ripng_port}
 use Rattle.router_core.specs.Adoption.{lost}
 use Rattle.router_core.specs.Ageing.{aged, aged_by_clock, aged_table, without_mark, unmarked}
-use Rattle.router_core.specs.Output.{Message, AreSpelled, told, told_entry, is_learned_on, every_route, is_changed, numbers_below, pieces, filled, reply_entry, reply, asks_for_all, responses, start_messages, link_up_messages, request_on, update_messages, reply_messages}
+use Rattle.router_core.specs.Output.{Message, AreSpelled, told, told_entry, is_learned_on, every_route, is_changed, numbers_below, pieces, filled, reply_entry, reply_on, reply, asks_for_all, asked_on, responses, start_messages, link_up_messages, request_on, update_on, update_messages, reply_messages}
 use Rattle.router_core.specs.Machine.{State, Happening, Arrives, Ticks, Restarts, Reconfigures, ShutsDown, LinkGoesDown, LinkComesUp, Moves, Starts, Hears, Replies, Refuses, Accepts, tick_messages, is_regular_due, is_triggered_due}
 use Rattle.router_core.specs.declared.answer.Answer.{Answer}
 use Rattle.router_core.specs.declared.arrival.Fault.{Fault}
@@ -30,6 +32,7 @@ use Rattle.router_core.specs.LinkDown.{is_live_on, after_link_down, table_after_
 use Rattle.ripng_world.specs.Walks.{Hop}
 use Rattle.ripng_world.specs.Past.{Past, ReachesSince}
 use Rattle.ripng_world.specs.TruthSince.{IsSoundSince, IsSoundTableSince, IsSoundEntrySince, IsSoundDatagramSince}
+use Rattle.ripng_world.proofs.Announced.{announced_held}
 use Rattle.ripng_world.proofs.Each.{each_filter, each_take, each_drop, each_mapped, each_image, each_flat, each_weaker}
 
 module _ (past : Past) (router : ℕ) where
@@ -123,11 +126,21 @@ module _ (past : Past) (router : ℕ) where
       by_length true = filled_true table sound e _ (λ r is. sound (cleared e.addr e.len) r is)
       by_length false = filled_true table sound e None (λ r is. absurd (None-Some r is))
 
-  all_replied : (iface : ℕ) (table : Table) (asked : List Rte) → IsSoundTableSince past router table → AllTrue (reply iface table asked)
-  all_replied iface table asked sound =
-      elim (asks_for_all asked) as (λ b. AllTrue (cond b (told iface every_route table) (map (reply_entry table) asked))) [
-        | true ↦ all_told iface every_route table sound
-        | false ↦ each_image (IsSoundEntrySince past router) (reply_entry table) (reply_true table sound) asked
+  announced_sound : (config : Config) (iface : ℕ) (table : Table) → IsSoundTableSince past router table → IsSoundTableSince past router (announced config iface table)
+  announced_sound config iface table sound p r is = sound p r (announced_held config iface table p r is)
+
+  reply_on_true : (config : Config) (iface : ℕ) (table : Table) → IsSoundTableSince past router table → (e : Rte) → IsSoundEntrySince past router (reply_on config iface table e)
+  reply_on_true config iface table sound e =
+      elim (is_announced config iface (prefix_named e)) as (λ b. IsSoundEntrySince past router (cond b (reply_entry table e) (filled e None))) [
+        | true ↦ reply_true table sound e
+        | false ↦ poison _ refl
+      ]
+
+  all_replied : (config : Config) (iface : ℕ) (table : Table) (asked : List Rte) → IsSoundTableSince past router table → AllTrue (reply config iface table asked)
+  all_replied config iface table asked sound =
+      elim (asks_for_all asked) as (λ b. AllTrue (cond b (told iface every_route (announced config iface table)) (map (reply_on config iface table) asked))) [
+        | true ↦ all_told iface every_route (announced config iface table) (announced_sound config iface table sound)
+        | false ↦ each_image (IsSoundEntrySince past router) (reply_on config iface table) (reply_on_true config iface table sound) asked
       ]
 
   -- ---- messages
@@ -151,12 +164,14 @@ module _ (past : Past) (router : ℕ) where
       (each_weaker (λ piece. Response ≡ Response → AllTrue piece) AllTrue (λ piece t _. t) _ (pieces_true (entries_for_mtu (mtu_at config iface)) entries all))
 
   updates_true : (config : Config) (which : RouteValue → Bool) (table : Table) → IsSoundTableSince past router table → AllTrueMessages (update_messages config which table)
-  updates_true config which table sound =
-      elim config.quiet as (λ b. AllTrueMessages (cond b [] (flat_map (λ t. responses config t.0 Group (told t.0 which table)) (enumerate_from 0 config.interfaces)))) [
-        | true ↦ tt
-        | false ↦ each_flat IsTrueMessage (λ t. responses config t.0 Group (told t.0 which table))
-            (λ t. responses_true config t.0 Group (told t.0 which table) (all_told t.0 which table sound)) (enumerate_from 0 config.interfaces)
-      ]
+  updates_true config which table sound = each_flat IsTrueMessage (λ t. update_on config which table t.0) (λ t. update_true t.0) (enumerate_from 0 config.interfaces)
+    where
+      update_true : (iface : ℕ) → AllTrueMessages (update_on config which table iface)
+      update_true iface =
+          elim (is_passive config iface) as (λ b. AllTrueMessages (cond b [] (responses config iface Group (told iface which (announced config iface table))))) [
+            | true ↦ tt
+            | false ↦ responses_true config iface Group (told iface which (announced config iface table)) (all_told iface which (announced config iface table) (announced_sound config iface table sound))
+          ]
 
   request_true : (iface : ℕ) → IsTrueMessage (request_on iface)
   request_true iface is = absurd (other_command is)
@@ -164,26 +179,28 @@ module _ (past : Past) (router : ℕ) where
       other_command : Request ≡ Response → ⊥
       other_command e = cc
 
-  starts_true : (config : Config) → AllTrueMessages (start_messages config)
-  starts_true config =
-      elim config.quiet as (λ b. AllTrueMessages (cond b [] (map (λ t. request_on t.0) (enumerate_from 0 config.interfaces)))) [
+  asked_true : (config : Config) (iface : ℕ) → AllTrueMessages (asked_on config iface)
+  asked_true config iface =
+      elim (is_passive config iface) as (λ b. AllTrueMessages (cond b [] (request_on iface ∷ []))) [
         | true ↦ tt
-        | false ↦ each_image IsTrueMessage (λ t. request_on t.0) (λ t. request_true t.0) (enumerate_from 0 config.interfaces)
+        | false ↦ (request_true iface, tt)
       ]
 
+  starts_true : (config : Config) → AllTrueMessages (start_messages config)
+  starts_true config = each_flat IsTrueMessage (λ t. asked_on config t.0) (λ t. asked_true config t.0) (enumerate_from 0 config.interfaces)
+
   link_up_true : (config : Config) (iface : ℕ) → AllTrueMessages (link_up_messages config iface)
-  link_up_true config iface = by config.quiet (nat_lt iface (length config.interfaces))
-    where
-      by : (b c : Bool) → AllTrueMessages (cond b [] (cond c (request_on iface ∷ []) []))
-      by true c = tt
-      by false true = (request_true iface, tt)
-      by false false = tt
+  link_up_true config iface =
+      elim (nat_lt iface (length config.interfaces)) as (λ b. AllTrueMessages (cond b (asked_on config iface) [])) [
+        | true ↦ asked_true config iface
+        | false ↦ tt
+      ]
 
   replies_true : (config : Config) (table : Table) (x : Received) (asked : List Rte) → IsSoundTableSince past router table → AllTrueMessages (reply_messages config table x asked)
   replies_true config table x asked sound =
-      elim (config.quiet && x.source_port == ripng_port) as (λ b. AllTrueMessages (cond b [] (responses config x.iface (Peer x.source x.source_port) (reply x.iface table asked)))) [
+      elim (is_passive config x.iface && x.source_port == ripng_port) as (λ b. AllTrueMessages (cond b [] (responses config x.iface (Peer x.source x.source_port) (reply config x.iface table asked)))) [
         | true ↦ tt
-        | false ↦ responses_true config x.iface (Peer x.source x.source_port) (reply x.iface table asked) (all_replied x.iface table asked sound)
+        | false ↦ responses_true config x.iface (Peer x.source x.source_port) (reply config x.iface table asked) (all_replied config x.iface table asked sound)
       ]
 
   tick_true : (old : State) (now : ℕ) → IsSoundTableSince past router old.table → AllTrueMessages (tick_messages old now)

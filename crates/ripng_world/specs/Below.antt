@@ -18,8 +18,9 @@ pub use Rattle.fib.specs.declared.change.Hop.{Hop as FibHop}
 pub use Rattle.fib.specs.declared.change.Hop.TheVariants.{Direct, Via}
 pub use Rattle.router_core.specs.Adoption.{Gateway}
 pub use Rattle.router_core.specs.Ageing.{aged_table}
+pub use Rattle.router_core.specs.Announcing.{is_announced, is_passive}
 pub use Rattle.router_core.specs.Changes.{forwards, forward}
-pub use Rattle.router_core.specs.Config.{Config, config_with, config_reasons, reasons_of_each, IsConfig}
+pub use Rattle.router_core.specs.Config.{Config, config_with, announcing, config_reasons, reasons_of_each, IsConfig}
 pub use Rattle.router_core.specs.Faults.{fault, ripng_port}
 pub use Rattle.router_core.specs.Filters.{is_accepted, limit_at}
 pub use Rattle.router_core.specs.Hearing.{Hearing, Heard}
@@ -39,6 +40,7 @@ pub use Rattle.router_core.specs.declared.reconfiguring.Change.TheVariants.{Cost
 pub use Rattle.router_core.specs.declared.reconfiguring.ReconfigureRefused.{ReconfigureRefused}
 pub use Rattle.ripng_world.specs.declared.event.LabError.{LabError}
 pub use Rattle.ripng_world.specs.declared.event.LabError.TheVariants.{NoSuchRouter, NoSuchInterface, NoSuchDatagram, OtherLink, NotAStranger, OutOfMemory, NotALiar}
+pub use Rattle.ripng_world.specs.declared.links.Links.{Links}
 pub use Rattle.ripng_world.specs.declared.network.NetInterface.{NetInterface}
 pub use Rattle.ripng_world.specs.declared.network.NetRefused.{NetRefused}
 pub use Rattle.ripng_world.specs.declared.network.NetRefused.TheVariants.{TooManyRouters, ZoneNamed, AddressSharedInNetwork, BadRouter}

@@ -1,25 +1,26 @@
 -- Convergence from a cold start, in a counted number of rounds.
 use Rattle.std.specs.Prelude.{◌≡◌, ℕ, ◌<◌, ◌≤◌, IsTrue, IsFalse, List, length, Contains, Some, slice_get}
-use Rattle.ripng_world.specs.Below.{Prefix6, RouteValue, infinity, Table, table_limit, State, is_accepted, limit_at}
+use Rattle.ripng_world.specs.Below.{Prefix6, RouteValue, infinity, Table, table_limit, State, is_accepted, is_announced, is_passive, limit_at}
 use Rattle.std.specs.FinMap as map_of
 use Rattle.ripng_world.specs.Network.{Network, Node, Owns, config_of}
 use Rattle.ripng_world.specs.Walks.{IsLeast, IsLeastWithin}
 use Rattle.ripng_world.specs.World.{World}
 
--- no router of the network is quiet (passive)
+-- no interface of a router is passive, so no router is quiet
 abbrev pub IsNeverQuiet : Network → Type 0
-IsNeverQuiet net = (router : ℕ) (node : Node) → slice_get net router ≡ Some node → IsFalse node.quiet
+IsNeverQuiet net = (router iface : ℕ) (node : Node) → slice_get net router ≡ Some node → IsFalse (is_passive (config_of node) iface)
 
--- each interface of each router takes routes to what is so, and has no limit below that number
-pub record AreTaken (net : Network) (is_so : Prefix6 → Type 0) (number : ℕ) : Type 0 where
+-- each interface of each router takes and announces routes to what is so, and has no limit below that number
+pub record AreLetThrough (net : Network) (is_so : Prefix6 → Type 0) (number : ℕ) : Type 0 where
   pub accepted : (router iface : ℕ) (node : Node) (p : Prefix6) → slice_get net router ≡ Some node → is_so p → IsTrue (is_accepted (config_of node) iface p)
+  pub announced : (router iface : ℕ) (node : Node) (p : Prefix6) → slice_get net router ≡ Some node → is_so p → IsTrue (is_announced (config_of node) iface p)
   pub within : (router iface limit : ℕ) (node : Node) → slice_get net router ≡ Some node → limit_at (config_of node) iface ≡ Some limit → number ≤ limit
 
--- no more distinct owned prefixes than a table holds; where there are filters and limits, they let all of them in
+-- no more distinct owned prefixes than a table holds; where there are filters and limits, they let all of them through, in and out
 abbrev pub FitsTables : Network → Type 0
 FitsTables net =
     (owned : List Prefix6) × (length owned ≤ table_limit) × ((router : ℕ) (p : Prefix6) (tag : ℕ) → Owns net router p tag → Contains owned p)
-    × AreTaken net (λ p. (router : ℕ) × (tag : ℕ) × Owns net router p tag) (length owned)
+    × AreLetThrough net (λ p. (router : ℕ) × (tag : ℕ) × Owns net router p tag) (length owned)
 
 -- the routes below infinity have exactly the least costs within k hops
 pub record IsConverged (net : Network) (k router : ℕ) (table : Table) : Type 0 where

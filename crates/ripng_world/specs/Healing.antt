@@ -4,7 +4,7 @@ use Rattle.ripng_world.specs.Below.{Prefix6, RouteValue, infinity, Table, table_
 use Rattle.std.specs.FinMap as map_of
 use Rattle.ripng_world.specs.Asked.{Asked}
 use Rattle.ripng_world.specs.AskedRounds.{AreMade}
-use Rattle.ripng_world.specs.Convergence.{IsNeverQuiet, AreTaken}
+use Rattle.ripng_world.specs.Convergence.{IsNeverQuiet, AreLetThrough}
 use Rattle.ripng_world.specs.Network.{Network, Node}
 use Rattle.ripng_world.specs.Past.{Past, OwnsSince}
 use Rattle.ripng_world.specs.Rounds.{Round, IsMomentOf}
@@ -32,11 +32,11 @@ reconfigured_network net done = unwrap_or (option_map (λ node. slice_set net do
 abbrev pub network_now : Past → Network
 network_now past = fold reconfigured_network past.net past.reconfigurations
 
--- no more distinct prefixes than a table holds were ever owned; where there are filters and limits, they let all of them in
+-- no more distinct prefixes than a table holds were ever owned; where there are filters and limits, they let all of them through, in and out
 abbrev pub FitsTablesSince : Past → Type 0
 FitsTablesSince past =
     (owned : List Prefix6) × (length owned ≤ table_limit) × ((router : ℕ) (p : Prefix6) (tag : ℕ) → OwnsSince past router p tag → Contains owned p)
-    × AreTaken past.net (λ p. (router : ℕ) × (tag : ℕ) × OwnsSince past router p tag) (length owned)
+    × AreLetThrough past.net (λ p. (router : ℕ) × (tag : ℕ) × OwnsSince past router p tag) (length owned)
 
 -- ---- rounds that follow one another closely
 

@@ -1,14 +1,16 @@
 -- Networks: routers with interfaces on links.
 use Rattle.std.specs.Prelude.{◌≡◌, ℕ, ◌<◌, ◌≤◌, Bool, IsTrue, List, [], map, Option, Some, slice_get, option_and_then}
-use Rattle.ripng_world.specs.Below.{is_link_local, Prefix6, IsPrefix, is_routable, infinity, Config, config_with, Filter, Limit, NetInterface}
+use Rattle.ripng_world.specs.Below.{is_link_local, Prefix6, IsPrefix, is_routable, infinity, Config, config_with, announcing, Filter, Limit, NetInterface}
 
 -- what one router of a network is configured with
 pub record Node : Type 0 where
   pub interfaces : List NetInterface
   pub prefixes : List (Prefix6 × ℕ)  -- that it owns, with their tags
   pub quiet : Bool
-  pub filters : List Filter
+  pub filters : List Filter  -- of what comes in
   pub limits : List Limit
+  pub passive : List ℕ  -- its passive interfaces
+  pub announcements : List Filter  -- filters of what goes out
 
 -- routers, each known by its place in the list
 abbrev pub Network : Type 0
@@ -16,13 +18,13 @@ Network = List Node
 
 -- the configuration of a router, without its links
 abbrev pub config_of : Node → Config
-config_of node = config_with (map (λ i. i.interface) node.interfaces) node.prefixes node.quiet node.filters node.limits
+config_of node = announcing (config_with (map (λ i. i.interface) node.interfaces) node.prefixes node.quiet node.filters node.limits) node.passive node.announcements
 
--- no filter and no limit
+-- no filter, in or out, no limit, and no passive interface of its own
 abbrev pub HasNoLists : Node → Type 0
-HasNoLists node = (node.filters ≡ []) × (node.limits ≡ [])
+HasNoLists node = (node.filters ≡ []) × (node.limits ≡ []) × (node.passive ≡ []) × (node.announcements ≡ [])
 
--- no router has filters or limits
+-- the same of all routers
 abbrev pub HaveNoLists : Network → Type 0
 HaveNoLists net = (router : ℕ) (node : Node) → slice_get net router ≡ Some node → HasNoLists node
 

@@ -8,6 +8,7 @@ mod delivering;
 mod making;
 
 use crate::event::{Event, LabError, Sent};
+use crate::links::Links;
 use crate::network::NetConfig;
 use crate::running::Running;
 use crate::station::{Station, file};
@@ -57,9 +58,11 @@ impl<S: RouteStore> Lab<S> {
             file(&mut sent, number, answer.sends);
             stations.push_reserved(station);
         }
+        let links = Links::of(alloc, &stations)?;
         Ok(Lab {
             running: Running {
                 stations,
+                links,
                 sent,
                 reconfigurations: Vec::new(alloc),
                 alloc,

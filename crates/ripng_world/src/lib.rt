@@ -18,12 +18,13 @@
 //!
 //! Read the definitions in `specs/` in this order: Network, Walks, World (states and events), Past (costs and owners since the
 //! start), Labs (what a call keeps, and why it refuses); then Rounds, Healing, Packets and Path. Begin in the code with `lab.rt`: a step
-//! is refused by `running.rt`, or done by it and `station.rt`. Where packets go is in `path.rt`.
+//! is refused by `running.rt`, or done by it and `station.rt`. Who receives is in `links.rt`, and where packets go in `path.rt`.
 #![tactic(auto)]
 
 mod event;
 mod lab;
 mod laws;
+mod links;
 mod network;
 mod path;
 mod running;

@@ -20,7 +20,7 @@ pub struct NetInterface {
     pub link: u16,
 }
 
-/// The configuration of one router of a network. In a laboratory it has no filters and no limits.
+/// The configuration of one router of a network. In a laboratory it has no filters, no limits and no passive interfaces of its own.
 #[derive(Drop)]
 pub struct Node {
     /// Its interfaces, numbered from 0.
@@ -43,6 +43,8 @@ impl Model for Node {
       quiet = n.quiet;
       filters = [];
       limits = [];
+      passive = [];
+      announcements = [];
     } };
 }
 
@@ -107,9 +109,11 @@ impl Model for NetRouter {
       quiet = r.config.quiet;
       filters = [];
       limits = [];
+      passive = [];
+      announcements = [];
     } };
 
-    ghost invariant = { λ r. (map (λ i. i.interface) r.interfaces.items ≡ r.config.interfaces) × (r.config.filters ≡ []) × (r.config.limits ≡ []) };
+    ghost invariant = { λ r. (map (λ i. i.interface) r.interfaces.items ≡ r.config.interfaces) × (r.config.filters ≡ []) × (r.config.limits ≡ []) × (r.config.passive ≡ []) × (r.config.announcements ≡ []) };
 }
 
 /// A lawful network.

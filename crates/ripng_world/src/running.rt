@@ -2,9 +2,10 @@
 //! router has received a forged Response: that is promised of a `Lab`, which is made of this.
 
 ghost use Rattle.std.specs.Prelude.{◌≡◌, ℕ, ◌∷◌, [], Some, IfErr, IfOk, OnErr, length, slice_get, option_copied};
-ghost use Rattle.ripng_world.specs.Common.{result_err, first_reason, event_of, event_fault, HappensGiving, StepEnds, link_at, missing_interface_reasons, missing_router_reasons, lie_fault, Acts, IsOwnRefusal, IsPlacedIn, Deliver, Stranger, is_heard, IsLieRefusal, LiesGiving, IfRefused, WatchedInPart, failures, refusal_in, LabValue, lab_of, coded_states};
+ghost use Rattle.ripng_world.specs.Common.{result_err, first_reason, event_of, event_fault, HappensGiving, StepEnds, link_at, missing_interface_reasons, missing_router_reasons, lie_fault, Acts, IsOwnRefusal, IsPlacedIn, Deliver, Stranger, is_heard, IsLieRefusal, LiesGiving, IfRefused, WatchedInPart, failures, refusal_in, LabValue, lab_of, coded_states, AreListed, network_of};
 
 use crate::event::{Event, LabError, Sent};
+use crate::links::Links;
 use crate::station::{Station, file, interface_at, source_of};
 use crate::watch::{Observer, Stopped};
 use prefix6::Addr6;
@@ -18,6 +19,7 @@ use std::marker::Model;
 #[derive(Drop)]
 pub struct Running<S: RouteStore> {
     pub(crate) stations: Vec<Station<S>>,
+    pub(crate) links: Links,
     pub(crate) sent: Vec<Sent>,
     pub(crate) reconfigurations: Vec<(usize, Change)>,
     pub(crate) alloc: Global,
@@ -29,6 +31,8 @@ impl<S: RouteStore> Model for Running<S> {
     ghost coded = { Prim.hlevel coded_states };
 
     ghost view = { λ l. lab_of l.stations.items l.sent.items l.reconfigurations.items };
+
+    ghost invariant = { λ l. AreListed (network_of l.stations.items) l.links };
 }
 
 /// Whether the router would accept the arrival as a Response. Only a Response is decoded for that.

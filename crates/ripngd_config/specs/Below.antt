@@ -10,7 +10,7 @@ pub use Rattle.ripngd_engine.specs.declared.peer.Peer.{Peer}
 pub use Rattle.ripngd_engine.specs.declared.peer.Place.{Place}
 pub use Rattle.ripngd_engine.specs.declared.peer.Socket.{Socket}
 pub use Rattle.ripngd_engine.specs.declared.peer.Socket.TheVariants.{Inherited, Local}
-pub use Rattle.router_core.specs.Config.{Config, IsConfig, config_with, config_fault}
+pub use Rattle.router_core.specs.Config.{Config, IsConfig, announcing, config_with, config_fault}
 pub use Rattle.router_core.specs.declared.config.Interface.{Interface}
 pub use Rattle.router_core.specs.declared.filter.Action.{Action}
 pub use Rattle.router_core.specs.declared.filter.Action.TheVariants.{Accept, Reject}

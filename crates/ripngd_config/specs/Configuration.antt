@@ -1,6 +1,6 @@
 -- What a configuration's text makes a router run on, and why a text is refused.
-use Rattle.std.specs.Prelude.{◌≡◌, ◌⊎◌, ◌+◌, ℕ, Bool, List, [], ◌∷◌, ◌++◌, length, map, Option, Some, None, unwrap_or, ⊤, IsUtf8}
-use Rattle.ripngd_config.specs.Below.{Members, parse_document, pcg32_seed, pcg32_of_seed, Prefix6, Config as RouterConfig, IsConfig, config_with, config_fault, Interface, Action, Accept, Reject, Filter, Limit, ConfigFault, BadToml, OutOfMemory, Router, Place, Document, InterfaceTable, PrefixTable}
+use Rattle.std.specs.Prelude.{◌≡◌, ◌⊎◌, ◌+◌, ℕ, Bool, if◌then◌else◌, List, [], ◌∷◌, ◌++◌, length, map, Option, Some, None, unwrap_or, ⊤, IsUtf8}
+use Rattle.ripngd_config.specs.Below.{Members, parse_document, pcg32_seed, pcg32_of_seed, Prefix6, Config as RouterConfig, IsConfig, announcing, config_with, config_fault, Interface, Action, Accept, Reject, Filter, Limit, ConfigFault, BadToml, OutOfMemory, Router, Place, Document, InterfaceTable, PrefixTable}
 use Rattle.ripngd_config.specs.declared.range.Range.{Range}
 use Rattle.ripngd_config.specs.Faults.{RefusesKey, TableHas}
 use Rattle.ripngd_config.specs.Keys.{document_keys}
@@ -29,13 +29,13 @@ abbrev pub filter_of : ℕ → Action → Range → Filter
 filter_of iface action r = record { iface = iface; action = action; prefix = r.prefix; is_longer = r.is_longer }
 
 -- the filters of an interface: those that accept, and those that reject
-abbrev pub filters_at : ℕ → InterfaceTable → List Filter
-filters_at iface t = map (filter_of iface Accept) t.accept.items ++ map (filter_of iface Reject) t.reject.items
+abbrev pub filters_at : ℕ → List Range → List Range → List Filter
+filters_at iface accept reject = map (filter_of iface Accept) accept ++ map (filter_of iface Reject) reject
 
--- the filters of interfaces, of which the first has this number
+-- the filters of what comes in, of interfaces of which the first has this number
 abbrev pub filters_from : ℕ → List InterfaceTable → List Filter
 filters_from iface [] = []
-filters_from iface (t ∷ ts) = filters_at iface t ++ filters_from (iface + 1) ts
+filters_from iface (t ∷ ts) = filters_at iface t.accept.items t.reject.items ++ filters_from (iface + 1) ts
 
 -- the limit of an interface, if it has one
 abbrev pub limit_of : ℕ → Option ℕ → List Limit
@@ -47,10 +47,22 @@ abbrev pub limits_from : ℕ → List InterfaceTable → List Limit
 limits_from iface [] = []
 limits_from iface (t ∷ ts) = limit_of iface t.limit ++ limits_from (iface + 1) ts
 
+-- the filters of what goes out, of interfaces of which the first has this number
+abbrev pub announcements_from : ℕ → List InterfaceTable → List Filter
+announcements_from iface [] = []
+announcements_from iface (t ∷ ts) = filters_at iface t.announce.items t.announce_not.items ++ announcements_from (iface + 1) ts
+
+-- the passive ones of interfaces, of which the first has this number
+abbrev pub passive_from : ℕ → List InterfaceTable → List ℕ
+passive_from iface [] = []
+passive_from iface (t ∷ ts) = if t.passive then iface ∷ passive_from (iface + 1) ts else passive_from (iface + 1) ts
+
 -- what the router runs on
 abbrev pub router_config_of : ℕ → Bool → Document → RouterConfig
 router_config_of tag quiet d =
-    config_with (configured_interfaces d) (owned_by tag d) quiet (filters_from 0 d.interfaces.items) (limits_from 0 d.interfaces.items)
+    announcing
+    (config_with (configured_interfaces d) (owned_by tag d) quiet (filters_from 0 d.interfaces.items) (limits_from 0 d.interfaces.items))
+    (passive_from 0 d.interfaces.items) (announcements_from 0 d.interfaces.items)
 
 -- the text is UTF-8 and TOML, and its tables say this
 pub record Says (text : List ℕ) (d : Document) : Type 0 where

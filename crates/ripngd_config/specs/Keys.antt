@@ -58,7 +58,10 @@ keys_with link = key (codes "address") true address
     (key (codes "zone") false (number 0 65535)
     (key (codes "accept") false (array range)
     (key (codes "reject") false (array range)
-    (key (codes "limit") false (number 1 65536) link))))))
+    (key (codes "limit") false (number 1 65536)
+    (key (codes "passive") false truth
+    (key (codes "announce") false (array range)
+    (key (codes "announce_not") false (array range) link)))))))))
 
 -- the keys of an interface
 abbrev pub interface_keys : Members → Keys

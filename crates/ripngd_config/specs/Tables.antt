@@ -1,5 +1,5 @@
 -- What the tables of a configuration say: each value is that at its key, or the default, and there is no other key.
-use Rattle.std.specs.Prelude.{◌≡◌, true, [], List, None, Some, codes}
+use Rattle.std.specs.Prelude.{◌≡◌, true, false, [], List, None, Some, codes}
 use Rattle.ripngd_config.specs.Below.{Members, Peer, Socket, Inherited, Local, is_real, Document, InterfaceTable, PrefixTable}
 use Rattle.ripngd_config.specs.Keys.{HasOnly, document_keys, interface_keys, is_real_table, peer_keys, prefix_keys}
 use Rattle.ripngd_config.specs.Values.{AreSections, IsAddress, IsArray, IsReadAt, IsNumber, IsPrefixValue, IsRange, IsSomeNumber, IsTruth}
@@ -35,6 +35,9 @@ pub record IsInterfaceTable (ms : Members) (t : InterfaceTable) : Type 0 where
   pub accept : IsReadAt (IsArray IsRange) (codes "accept") (Some []) ms t.accept.items
   pub reject : IsReadAt (IsArray IsRange) (codes "reject") (Some []) ms t.reject.items
   pub limit : IsReadAt (IsSomeNumber 1 65536) (codes "limit") (Some None) ms t.limit
+  pub passive : IsReadAt IsTruth (codes "passive") (Some false) ms t.passive
+  pub announce : IsReadAt (IsArray IsRange) (codes "announce") (Some []) ms t.announce.items
+  pub announce_not : IsReadAt (IsArray IsRange) (codes "announce_not") (Some []) ms t.announce_not.items
   pub link : is_real t.socket ≡ is_real_table ms
   pub socket : IsSocket ms t.socket
   pub peers : ArePeers ms t.socket t.peers.items

@@ -4,7 +4,7 @@ ghost use Rattle.std.specs.Prelude.{◌≡◌, IfErr, IfOk, map};
 ghost use Rattle.ripngd_config.specs.Common.{HasOneEach, IsConfigured, RefusesConfig, RefusesRouter, RefusesText, Says, owned_by, places_of, router_config_of, IsConfig};
 
 use crate::fault::{ConfigFault, Read};
-use crate::lists::{filters_of, limits_of};
+use crate::lists::{announcements_of, filters_of, limits_of, passive_of};
 use crate::naming::{end_of, refused_part};
 use crate::section::{FromSection, Section};
 use crate::tables::{Document, InterfaceTable};
@@ -89,8 +89,14 @@ fn router_of(alloc: Global, document: &Document, tag: u16, quiet: bool) -> Read<
     let owned = owned_by(alloc, document, tag)?;
     let filters = filters_of(alloc, &document.interfaces)?;
     let limits = limits_of(alloc, &document.interfaces)?;
+    let passive = passive_of(alloc, &document.interfaces)?;
+    let announcements = announcements_of(alloc, &document.interfaces)?;
     match RouterConfig::check(interfaces, owned, quiet) {
-        Ok(router) => Ok(router.filtered(filters, limits)),
+        Ok(router) => Ok(
+            router
+                .filtered(filters, limits)
+                .announcing(passive, announcements),
+        ),
         Err(why) => Err(ConfigFault::Router(why, refused_part(alloc, document, why)?)),
     }
 }

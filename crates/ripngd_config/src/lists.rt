@@ -1,7 +1,7 @@
-//! The lists and the limits of all interfaces, as the router has them.
+//! The lists and the limits of all interfaces, and which are passive, as the router has them.
 
 ghost use Rattle.std.specs.Prelude.{◌≡◌, ◌++◌, IfOk, OnOk, map};
-ghost use Rattle.ripngd_config.specs.Common.{filter_of, filters_from, limits_from};
+ghost use Rattle.ripngd_config.specs.Common.{announcements_from, filter_of, filters_at, filters_from, limits_from, passive_from};
 
 use crate::range::Range;
 use crate::tables::InterfaceTable;
@@ -28,7 +28,20 @@ fn add_filters(
     Ok(())
 }
 
-/// The filters of each interface, in order.
+/// Adds the filters of an interface: those that accept, and those that reject.
+fn add_lists(
+    filters: &mut Vec<Filter>,
+    iface: usize,
+    accept: &[Range],
+    reject: &[Range],
+) -> Result<(), AllocError>
+    ensures { OnOk result (filters.new.items ≡ filters.old.items ++ filters_at iface accept.now reject.now) }
+{
+    add_filters(filters, iface, Action::Accept, accept)?;
+    add_filters(filters, iface, Action::Reject, reject)
+}
+
+/// The filters of each interface of what comes in, in order.
 pub(crate) fn filters_of(
     alloc: Global,
     tables: &[InterfaceTable],
@@ -37,10 +50,36 @@ pub(crate) fn filters_of(
 {
     let mut filters = Vec::new(alloc);
     for (iface, table) in tables.iter().enumerate() {
-        add_filters(&mut filters, iface, Action::Accept, &table.accept)?;
-        add_filters(&mut filters, iface, Action::Reject, &table.reject)?;
+        add_lists(&mut filters, iface, &table.accept, &table.reject)?;
     }
     Ok(filters)
+}
+
+/// The filters of each interface of what goes out, in order.
+pub(crate) fn announcements_of(
+    alloc: Global,
+    tables: &[InterfaceTable],
+) -> Result<Vec<Filter>, AllocError>
+    ensures { IfOk result (λ v. v.items ≡ announcements_from 0 tables.now) }
+{
+    let mut filters = Vec::new(alloc);
+    for (iface, table) in tables.iter().enumerate() {
+        add_lists(&mut filters, iface, &table.announce, &table.announce_not)?;
+    }
+    Ok(filters)
+}
+
+/// The numbers of the interfaces that are passive, in order.
+pub(crate) fn passive_of(alloc: Global, tables: &[InterfaceTable]) -> Result<Vec<usize>, AllocError>
+    ensures { IfOk result (λ v. v.items ≡ passive_from 0 tables.now) }
+{
+    let mut passive = Vec::new(alloc);
+    for (iface, table) in tables.iter().enumerate() {
+        if table.passive {
+            passive.push(iface)?;
+        }
+    }
+    Ok(passive)
 }
 
 /// The limit of each interface that has one, in order.

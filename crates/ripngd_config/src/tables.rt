@@ -53,6 +53,9 @@ fn real_link(section: Section<'_>) -> Read<SocketAndPeers>
         "accept",
         "reject",
         "limit",
+        "passive",
+        "announce",
+        "announce_not",
         "descriptor",
         "group_descriptor",
         "far_descriptor",
@@ -81,6 +84,9 @@ fn local_link(section: Section<'_>) -> Read<SocketAndPeers>
         "accept",
         "reject",
         "limit",
+        "passive",
+        "announce",
+        "announce_not",
         "local_port",
         "group_port",
         "peer",
@@ -104,13 +110,16 @@ fn link_of(section: Section<'_>) -> Read<SocketAndPeers>
     }
 }
 
-/// An interface, its lists and its limit, its sockets, and its peers.
+/// An interface, its lists and its limit, whether it is passive, its sockets, and its peers.
 #[derive(Debug, Drop)]
 pub(crate) struct InterfaceTable {
     pub interface: Interface,
     pub accept: Vec<Range>,
     pub reject: Vec<Range>,
     pub limit: Option<u32>,
+    pub passive: bool,
+    pub announce: Vec<Range>,
+    pub announce_not: Vec<Range>,
     pub socket: Socket,
     pub peers: Vec<Peer>,
 }
@@ -130,12 +139,18 @@ impl FromSection for InterfaceTable {
         let accept = items_at(section, "accept")?;
         let reject = items_at(section, "reject")?;
         let limit = section.optional_count("limit")?;
+        let passive = section.truth("passive", false)?;
+        let announce = items_at(section, "announce")?;
+        let announce_not = items_at(section, "announce_not")?;
         let (socket, peers) = link_of(section)?;
         Ok(InterfaceTable {
             interface,
             accept,
             reject,
             limit,
+            passive,
+            announce,
+            announce_not,
             socket,
             peers,
         })

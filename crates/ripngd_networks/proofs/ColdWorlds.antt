@@ -1,13 +1,14 @@
 -- Every network of which each link is in one zone to each router has a cold world: each router started at moment 0.
-use Rattle.std.proofs.Common.{ℕ, suc, Bool, true, false, cond, List, [], ◌∷◌, ◌++◌, map, flat_map, None, refl, arith}
+use Rattle.std.proofs.Common.{ℕ, suc, true, false, cond, List, [], ◌∷◌, ◌++◌, map, flat_map, None, refl, arith}
 use Rattle.std.specs.List.{enumerate_from}
 use Rattle.std.proofs.lemmas.List.Elements.{All-cons, All-nil}
 use Rattle.ripng_wire.specs.declared.rte.Command.TheVariants.{Request}
 use Rattle.ripng_wire.specs.Layout.{Fits, Spells, command_byte, entry_bytes, version}
+use Rattle.router_core.specs.Announcing.{is_passive}
 use Rattle.router_core.specs.Config.{Config}
 use Rattle.router_core.specs.Changes.{changes_of_start}
 use Rattle.router_core.specs.Machine.{State, Starts, started, owned_table}
-use Rattle.router_core.specs.Output.{AreSpelled, start_messages, whole_table_request}
+use Rattle.router_core.specs.Output.{Message, AreSpelled, asked_on, request_on, start_messages, whole_table_request}
 use Rattle.router_core.specs.declared.answer.Answer.{Answer}
 use Rattle.router_core.specs.declared.answer.Destination.TheVariants.{Group}
 use Rattle.router_core.specs.declared.answer.Outgoing.{Outgoing}
@@ -28,21 +29,22 @@ request_spelled : Spells Request (whole_table_request ∷ []) request_bytes
 unfolding request_bytes
 request_spelled = record { bytes_are = refl; few = omega arith; fit = All-cons Fits whole_table_request [] request_fits (All-nil Fits) }
 
-request_on : ℕ × Interface → Outgoing
-request_on t = record { iface = t.0; to = Group; bytes = request_bytes }
+abbrev datagram_on : ℕ → Outgoing
+datagram_on iface = record { iface = iface; to = Group; bytes = request_bytes }
 
-requests_spelled : (ts : List (ℕ × Interface)) → AreSpelled (map (λ t. record { iface = t.0; to = Group; command = Request; entries = whole_table_request ∷ [] }) ts) (map request_on ts)
-unfolding request_on
-requests_spelled [] = tt
-requests_spelled (t ∷ ts) = (record { iface = refl; to = refl; bytes = request_spelled }, requests_spelled ts)
+asked_sends : (config : Config) (iface : ℕ) (ms : List Message) → (sends : List Outgoing) × AreSpelled ms sends → (sends : List Outgoing) × AreSpelled (asked_on config iface ++ ms) sends
+asked_sends config iface ms rest =
+    elim (is_passive config iface) as (λ b. (sends : List Outgoing) × AreSpelled (cond b [] (request_on iface ∷ []) ++ ms) sends) [
+      | true ↦ rest
+      | false ↦ (datagram_on iface ∷ rest.0, (record { iface = refl; to = refl; bytes = request_spelled }, rest.1))
+    ]
+
+requests : (config : Config) (ts : List (ℕ × Interface)) → (sends : List Outgoing) × AreSpelled (flat_map (λ t. asked_on config t.0) ts) sends
+requests config [] = ([], tt)
+requests config (t ∷ ts) = asked_sends config t.0 (flat_map (λ u. asked_on config u.0) ts) (requests config ts)
 
 start_sends : (config : Config) → (sends : List Outgoing) × AreSpelled (start_messages config) sends
-start_sends config = by_quiet config.quiet
-  where
-    by_quiet : (b : Bool) → (sends : List Outgoing)
-        × AreSpelled (cond b [] (map (λ t. record { iface = t.0; to = Group; command = Request; entries = whole_table_request ∷ [] }) (enumerate_from 0 config.interfaces))) sends
-    by_quiet true = ([], tt)
-    by_quiet false = (map request_on (enumerate_from 0 config.interfaces), requests_spelled (enumerate_from 0 config.interfaces))
+start_sends config = requests config (enumerate_from 0 config.interfaces)
 
 first_start : (config : Config) → (answer : Answer) × Starts config 0 answer (started config 0)
 first_start config =

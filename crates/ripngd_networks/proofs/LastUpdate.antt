@@ -5,6 +5,7 @@ use Rattle.std.specs.FinMap as map_of
 use Rattle.std.proofs.lemmas.List.Elements.{recursion_from_All}
 use Rattle.prefix6.specs.Prefix.{Prefix6, IsPrefix, cleared, is_routable}
 use Rattle.route_table.specs.Route.{RouteValue}
+use Rattle.router_core.specs.Announcing.{is_announced, is_passive}
 use Rattle.router_core.specs.Config.{mtu_at}
 use Rattle.router_core.specs.Machine.{State, Happening, ShutsDown, Moves}
 use Rattle.router_core.specs.declared.answer.Answer.{Answer}
@@ -51,12 +52,12 @@ none_by iface from p short routable s ended r next_hop at = subst (OfRoute (HasE
 
 pub neighbor_ends : (a a' b b' : State) (now iface on from : ℕ) (answer : Answer) (happenings : List Happening) (heard : List (List ℕ))
     → AllByRecursion (λ o. TellsLosses o.bytes) answer.sends
-    → a.config.quiet ≡ false → iface < length a.config.interfaces → 1280 ≤ mtu_at a.config iface → Moves a (ShutsDown now) answer a'
+    → is_passive a.config iface ≡ false → iface < length a.config.interfaces → 1280 ≤ mtu_at a.config iface → Moves a (ShutsDown now) answer a'
     → AreRoutes b.table → HearsFrom on from b happenings heard b' → IsHeardWhole (sent_on iface answer.sends) heard
-    → (p : Prefix6) (r : RouteValue) → map_of.get a.table p ≡ Some r → IsPrefix p → is_routable p ≡ true → HasNoneBy on from b'.table p
-neighbor_ends a a' b b' now iface on from answer happenings heard losses noisy here wide moves lawful hears whole p r at is_prefix routable =
+    → (p : Prefix6) (r : RouteValue) → map_of.get a.table p ≡ Some r → is_announced a.config iface p ≡ true → IsPrefix p → is_routable p ≡ true → HasNoneBy on from b'.table p
+neighbor_ends a a' b b' now iface on from answer happenings heard losses active here wide moves lawful hears whole p r at out is_prefix routable =
     let short = is_prefix.short in
-    let n : Names (sent_on iface answer.sends) p = told_on a (max a.last now) iface noisy here wide p r at answer.sends moves.answer_is.sends in
+    let n : Names (sent_on iface answer.sends) p = told_on a (max a.last now) iface active here wide p r at out answer.sends moves.answer_is.sends in
     let heard_it = at_from_contains heard n.bytes (each_at_place (Contains heard) (sent_on iface answer.sends) (recursion_from_All (Contains heard) (sent_on iface answer.sends) whole.all) n.stands.0 n.bytes n.stands.1) in
     let all = leads on from p short routable b happenings heard b' hears (losses_heard (sent_on iface answer.sends) heard (losses_on iface answer.sends losses) whole.only) in
     none_by on from p short routable b' (all.ends (can_end on from p short routable b lawful) n.bytes heard_it (tells_of (sent_on iface answer.sends) p is_prefix.clear n))

@@ -13,6 +13,7 @@ use Rattle.route_table.specs.Route.{RouteValue, IsRoute, infinity, is_dying, is_
 use Rattle.route_table.specs.declared.route.Clock.{Clock}
 use Rattle.route_table.specs.declared.route.Clock.TheVariants.{Fixed, Live, Dying}
 use Rattle.route_table.proofs.TableLaws.{Some-same, None-Some}
+use Rattle.router_core.specs.Announcing.{is_announced, is_passive}
 use Rattle.router_core.specs.Config.{Config, mtu_at}
 use Rattle.router_core.specs.Machine.{State, ShutsDown, Moves}
 use Rattle.router_core.specs.declared.answer.Answer.{Answer}
@@ -181,11 +182,11 @@ module _ (net : Network) (is_net : IsNetwork net) (w w' end : World) (router ifa
 
 pub delivered_ends : (net : Network) (moments : List ℕ) (events later : List Event) (cold w w' end : World) (router iface other on now : ℕ) (answer : Answer) (s t : State)
     → AllByRecursion (λ o. TellsLosses o.bytes) answer.sends
-    → IsNetwork net → IsCold net moments cold → WorldRun net cold events w → slice_get w.states router ≡ Some s → s.config.quiet ≡ false
+    → IsNetwork net → IsCold net moments cold → WorldRun net cold events w → slice_get w.states router ≡ Some s → is_passive s.config iface ≡ false
     → Happens net w (Shutdown router now) answer w' → WorldRun net w' later end → slice_get end.states other ≡ Some t
     → router ≢ other → AreLinked net router iface other on → IsDeliveredWhole w w' end router iface other on later
-    → (p : Prefix6) (r : RouteValue) → map_of.get s.table p ≡ Some r → HasNoneBy on (address_at net router iface) t.table p
-delivered_ends net moments events later cold w w' end router iface other on now answer s t losses is_net is_cold run s_is noisy m then t_is apart linked whole p r at =
+    → (p : Prefix6) (r : RouteValue) → map_of.get s.table p ≡ Some r → is_announced s.config iface p ≡ true → HasNoneBy on (address_at net router iface) t.table p
+delivered_ends net moments events later cold w w' end router iface other on now answer s t losses is_net is_cold run s_is active m then t_is apart linked whole p r at out =
     let all : AreReached net w = reached_from_cold net is_net moments events cold w is_cold run in
     let good : IsGood net is_net.owns_prefixes w = run_from_cold net is_net.owns_prefixes moments events cold w is_cold run in
     let once : WorldRun net w (Shutdown router now ∷ []) w' = (w', answer, m, refl) in
@@ -199,12 +200,12 @@ delivered_ends net moments events later cold w w' end router iface other on now 
     let row = (all.states router s s_is).reached.rows p r at in
     let known = known_lawful net is_net w all p row.plain.is_known in
     subst (λ (x : State). HasNoneBy on (address_at net router iface) x.table p) (Some-same sees.after t (sym sees.after_is ∙ t_is))
-    (neighbor_ends s m.new b.0 sees.after now iface on (address_at net router iface) answer sees.happenings sees.heard losses noisy
+    (neighbor_ends s m.new b.0 sees.after now iface on (address_at net router iface) answer sees.happenings sees.heard losses active
     (here net is_net w all router s s_is iface linked.here linked.here_is) (wide net is_net w all router s s_is iface linked.here linked.here_is)
     (subst (λ (x : State). Moves x (ShutsDown now) answer m.new) old_is m.moves)
     (lawful_table net w' all' other b.0 b.1) sees.hears
     (heard_whole net is_net w w' end router iface other on now answer m later then (λ e. apart (sym e)) linked node.0 node.1 b.0 sees whole)
-    p r at known.0 known.1)
+    p r at out known.0 known.1)
   where
     node_of : (o : Option Node) → slice_get net other ≡ o → (node : Node) × (slice_get net other ≡ Some node)
     node_of None is = absurd (None-Some linked.there (sym (ap (option_and_then (λ (n : Node). slice_get n.interfaces on)) is) ∙ linked.there_is))

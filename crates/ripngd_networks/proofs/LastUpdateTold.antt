@@ -1,5 +1,5 @@
--- The last update of a router that shuts down tells each prefix of its table on each interface.
-use Rattle.std.proofs.Common.{◌≡◌, ℕ, zero, suc, ◌+◌, ◌-◌, ◌/◌, ◌<◌, ◌≤◌, ◌==◌, Bool, true, false, cond, List, [], ◌∷◌, map, filter, flat_map, length, Some, option_and_then, slice_get, refl, ap, sym, subst, ◌∙◌, arith}
+-- The last update of a router that shuts down tells each prefix of its table on each interface that is not passive and announces it.
+use Rattle.std.proofs.Common.{◌≡◌, ℕ, zero, suc, ◌+◌, ◌-◌, ◌/◌, ◌<◌, ◌≤◌, ◌==◌, Bool, true, false, cond, List, [], ◌∷◌, map, filter, length, None, Some, option_and_then, slice_get, refl, ap, sym, subst, ◌∙◌, arith}
 use Rattle.std.specs.List.{AllByRecursion, enumerate_from}
 use Rattle.std.specs.FinMap as map_of
 use Rattle.std.proofs.lemmas.Bool.{eq-eqb, eqb-true}
@@ -11,13 +11,15 @@ use Rattle.route_table.specs.Route.{RouteValue}
 use Rattle.route_table.specs.Table.{Table}
 use Rattle.route_table.proofs.TableLaws.{Some-same, None-Some, get-map_values}
 use Rattle.router_core.specs.Adoption.{lost}
+use Rattle.router_core.specs.Announcing.{announced, is_announced, is_passive}
 use Rattle.router_core.specs.Config.{Config, mtu_at}
 use Rattle.router_core.specs.Machine.{State}
-use Rattle.router_core.specs.Output.{Message, AreSpelled, told, told_entry, every_route, pieces, responses}
+use Rattle.router_core.specs.Output.{Message, AreSpelled, told, told_entry, every_route, pieces, responses, update_on}
 use Rattle.router_core.specs.Shutdown.{unreachable_table, shutdown_messages}
 use Rattle.router_core.specs.declared.answer.Destination.TheVariants.{Group}
 use Rattle.router_core.specs.declared.answer.Outgoing.{Outgoing}
 use Rattle.router_core.specs.declared.config.Interface.{Interface}
+use Rattle.router_core.proofs.Announced.{announced_has}
 use Rattle.router_core.proofs.Cutting.{joined-pieces}
 use Rattle.router_core.proofs.HearingSteps.{at_place, numbered_at}
 use Rattle.ripng_world.proofs.Each.{each_flat, each_image}
@@ -65,22 +67,31 @@ of_sent_on iface (o ∷ os) bytes i e = by_test (o.iface == iface) refl i e (of_
     by_test true t (suc i) e later = let l = later i e in (l.0, (suc l.1.0, l.1.1), l.2, l.3)
     by_test false t i e later = let l = later i e in (l.0, (suc l.1.0, l.1.1), l.2, l.3)
 
-module _ (s : State) (n iface : ℕ) (noisy : s.config.quiet ≡ false) (here : iface < length s.config.interfaces) (wide : 1280 ≤ mtu_at s.config iface)
-    (p : Prefix6) (r : RouteValue) (at : map_of.get s.table p ≡ Some r) where
+module _ (s : State) (n iface : ℕ) (active : is_passive s.config iface ≡ false) (here : iface < length s.config.interfaces) (wide : 1280 ≤ mtu_at s.config iface)
+    (p : Prefix6) (r : RouteValue) (at : map_of.get s.table p ≡ Some r) (out : is_announced s.config iface p ≡ true) where
   abbrev entry : Rte
   entry = told_entry iface (p, lost n r)
 
+  abbrev losses : Table
+  losses = announced s.config iface (unreachable_table n s.table)
+
+  -- the prefix is among what is announced
+  lost_at : map_of.get losses p ≡ Some (lost n r)
+  lost_at =
+      announced_has s.config iface (unreachable_table n s.table) p
+      ∙ ap (λ b. cond b (map_of.get (unreachable_table n s.table) p) None) out
+      ∙ get-map_values (λ q. Some (lost n q)) s.table p ∙ ap (option_and_then (λ q. Some (lost n q))) at
+
   abbrev all : List Rte
-  all = told iface every_route (unreachable_table n s.table)
+  all = told iface every_route losses
 
   abbrev size : ℕ
   size = entries_for_mtu (mtu_at s.config iface)
 
   stands : At all entry
   stands =
-      at_map (told_entry iface) (filter (λ (u : Prefix6 × RouteValue). every_route u.1) (map_of.entries (unreachable_table n s.table))) (p, lost n r)
-      (at_filter (λ (u : Prefix6 × RouteValue). every_route u.1) (map_of.entries (unreachable_table n s.table)) (p, lost n r)
-      (at_entries (unreachable_table n s.table) p (lost n r) (get-map_values (λ q. Some (lost n q)) s.table p ∙ ap (option_and_then (λ q. Some (lost n q))) at)) (λ _. refl))
+      at_map (told_entry iface) (filter (λ (u : Prefix6 × RouteValue). every_route u.1) (map_of.entries losses)) (p, lost n r)
+      (at_filter (λ (u : Prefix6 × RouteValue). every_route u.1) (map_of.entries losses) (p, lost n r) (at_entries losses p (lost n r) lost_at) (λ _. refl))
 
   some : 0 < size
   some = room (mtu_at s.config iface) wide
@@ -91,28 +102,26 @@ module _ (s : State) (n iface : ℕ) (noisy : s.config.quiet ≡ false) (here : 
   in_piece : (piece : List Rte) × At (pieces size all) piece × At piece entry
   in_piece = in_joined (pieces size all) entry (subst (λ es. At es entry) (sym (joined-pieces size all some)) stands)
 
-  abbrev updates : List Message
-  updates = flat_map (λ u. responses s.config u.0 Group (told u.0 every_route (unreachable_table n s.table))) (enumerate_from 0 s.config.interfaces)
-
-  updates_are : shutdown_messages s.config n s.table ≡ updates
-  updates_are = ap (λ b. cond b [] updates) noisy
-
   abbrev message : Message
   message = record { iface = iface; to = Group; command = Response; entries = in_piece.0 }
 
-  in_updates : At updates message
+  in_update : At (update_on s.config every_route (unreachable_table n s.table) iface) message
+  in_update =
+      subst (λ b. At (cond b [] (responses s.config iface Group all)) message) (sym active)
+      (at_map (λ piece. record { iface = iface; to = Group; command = Response; entries = piece }) (pieces size all) in_piece.0 in_piece.1)
+
+  in_updates : At (shutdown_messages s.config n s.table) message
   in_updates =
       let i : (x : Interface) × (slice_get s.config.interfaces iface ≡ Some x) = at_place s.config.interfaces iface here in
-      at_flat (λ u. responses s.config u.0 Group (told u.0 every_route (unreachable_table n s.table))) (enumerate_from 0 s.config.interfaces) (iface, i.0) message
-      (iface, numbered_at 0 s.config.interfaces iface i.0 i.1 ∙ ap (λ (m : ℕ). Some (m, i.0)) (zero_first iface))
-      (at_map (λ piece. record { iface = iface; to = Group; command = Response; entries = piece }) (pieces size all) in_piece.0 in_piece.1)
+      at_flat (λ u. update_on s.config every_route (unreachable_table n s.table) u.0) (enumerate_from 0 s.config.interfaces) (iface, i.0) message
+      (iface, numbered_at 0 s.config.interfaces iface i.0 i.1 ∙ ap (λ (m : ℕ). Some (m, i.0)) (zero_first iface)) in_update
     where
       zero_first : (m : ℕ) → 0 + m ≡ m
       zero_first m = omega arith
 
   pub told_on : (sends : List Outgoing) → AreSpelled (shutdown_messages s.config n s.table) sends → Names (sent_on iface sends) p
   told_on sends spelled =
-      let o = spelled_at updates sends (subst (λ ms. AreSpelled ms sends) updates_are spelled) message in_updates in
+      let o = spelled_at (shutdown_messages s.config n s.table) sends spelled message in_updates in
       record {
         bytes = o.0.bytes;
         stands = at_sent_on iface sends o.0 o.1 o.2.iface;
@@ -130,13 +139,15 @@ abbrev IsResponse : Message → Type 0
 IsResponse m = m.command ≡ Response
 
 all_responses : (config : Config) (n : ℕ) (table : Table) → AllByRecursion IsResponse (shutdown_messages config n table)
-all_responses config n table =
-    elim config.quiet as (λ b. AllByRecursion IsResponse (cond b [] (flat_map (λ u. responses config u.0 Group (told u.0 every_route (unreachable_table n table))) (enumerate_from 0 config.interfaces)))) [
-      | true ↦ tt
-      | false ↦ each_flat IsResponse (λ u. responses config u.0 Group (told u.0 every_route (unreachable_table n table)))
-          (λ u. each_image IsResponse (λ piece. record { iface = u.0; to = Group; command = Response; entries = piece }) (λ piece. refl)
-          (pieces (entries_for_mtu (mtu_at config u.0)) (told u.0 every_route (unreachable_table n table)))) (enumerate_from 0 config.interfaces)
-    ]
+all_responses config n table = each_flat IsResponse (λ u. update_on config every_route (unreachable_table n table) u.0) (λ u. on_each u.0) (enumerate_from 0 config.interfaces)
+  where
+    on_each : (iface : ℕ) → AllByRecursion IsResponse (update_on config every_route (unreachable_table n table) iface)
+    on_each iface =
+        elim (is_passive config iface) as (λ b. AllByRecursion IsResponse (cond b [] (responses config iface Group (told iface every_route (announced config iface (unreachable_table n table)))))) [
+          | true ↦ tt
+          | false ↦ each_image IsResponse (λ piece. record { iface = iface; to = Group; command = Response; entries = piece }) (λ piece. refl)
+              (pieces (entries_for_mtu (mtu_at config iface)) (told iface every_route (announced config iface (unreachable_table n table))))
+        ]
 
 spelled_responses : (ms : List Message) (sends : List Outgoing) → AllByRecursion IsResponse ms → AreSpelled ms sends → AllByRecursion (λ o. (entries : List Rte) × Spells Response entries o.bytes) sends
 spelled_responses [] [] each spelled = tt

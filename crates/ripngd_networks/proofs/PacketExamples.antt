@@ -37,9 +37,9 @@ interface n dear link = record { interface = record { addr = local n; cost = dea
 
 abbrev net : Network
 net =
-    record { interfaces = interface 1 14 1 ∷ []; prefixes = []; quiet = false; filters = []; limits = [] }
-    ∷ record { interfaces = interface 2 1 1 ∷ interface 3 1 2 ∷ []; prefixes = (short, 0) ∷ []; quiet = false; filters = []; limits = [] }
-    ∷ record { interfaces = interface 4 1 2 ∷ []; prefixes = (long, 0) ∷ []; quiet = false; filters = []; limits = [] }
+    record { interfaces = interface 1 14 1 ∷ []; prefixes = []; quiet = false; filters = []; limits = []; passive = []; announcements = [] }
+    ∷ record { interfaces = interface 2 1 1 ∷ interface 3 1 2 ∷ []; prefixes = (short, 0) ∷ []; quiet = false; filters = []; limits = []; passive = []; announcements = [] }
+    ∷ record { interfaces = interface 4 1 2 ∷ []; prefixes = (long, 0) ∷ []; quiet = false; filters = []; limits = []; passive = []; announcements = [] }
     ∷ []
 
 abbrev across : Hop
@@ -161,7 +161,7 @@ arrive =
       few_hops = omega arith;
       prefix = long;
       tag = 0;
-      owner = record { node = record { interfaces = interface 4 1 2 ∷ []; prefixes = (long, 0) ∷ []; quiet = false; filters = []; limits = [] }; node_is = refl; place = 0; listed = refl };
+      owner = record { node = record { interfaces = interface 4 1 2 ∷ []; prefixes = (long, 0) ∷ []; quiet = false; filters = []; limits = []; passive = []; announcements = [] }; node_is = refl; place = 0; listed = refl };
       holds = (low, refl);
       no_shorter = λ hop first. let is = matches_short hop first in omega arith;
     }

@@ -26,6 +26,7 @@ pub use Rattle.route_table.specs.Route.{RouteValue, IsRoute, infinity}
 pub use Rattle.route_table.specs.Table.{Table}
 pub use Rattle.route_table.specs.declared.route.Origin.TheVariants.{Learned}
 pub use Rattle.router_core.specs.Changes.{forwards, forward}
+pub use Rattle.router_core.specs.Announcing.{is_announced, is_passive}
 pub use Rattle.router_core.specs.Config.{Config, mtu_at}
 pub use Rattle.router_core.specs.Faults.{fault}
 pub use Rattle.router_core.specs.Machine.{State, Happening, Arrives, Moves, ShutsDown, LinkGoesDown}

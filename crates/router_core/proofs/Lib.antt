@@ -19,6 +19,9 @@ pub mod Owning
 mod AgedTables
 mod AllRoutes
 mod DueRoutes
+pub mod Announced
+mod Replying
+pub mod ListLaws
 mod ToldRuns
 mod EmptyRequests
 mod Silence

@@ -1,12 +1,13 @@
 -- What an interface takes without filters and limits: everything, as RFC 2080 has it.
-use Rattle.std.proofs.Common.{◌≡◌, ℕ, Bool, true, false, not, ◌&&◌, ◌||◌, nat_lt, List, [], Option, None, refl, ap, ap₂, ◌∙◌}
+use Rattle.std.proofs.Common.{◌≡◌, ℕ, Bool, true, false, not, ◌&&◌, nat_lt, List, [], Option, None, refl, ap, ap₂, ◌∙◌}
 use Rattle.std.specs.Prelude.{if◌then◌else◌, ◌∷◌}
 use Rattle.ripng_wire.specs.declared.rte.Rte.{Rte}
 use Rattle.ripng_wire.specs.Wire.{first_reason}
 use Rattle.prefix6.specs.Prefix.{Prefix6}
 use Rattle.route_table.specs.Route.{infinity}
 use Rattle.router_core.specs.Config.{Config}
-use Rattle.router_core.specs.Filters.{is_accepted, is_rejected_by, accepts_named_alone, is_accepted_by, is_limit_reached, limit_at, refusal}
+use Rattle.router_core.specs.Filters.{is_accepted, is_limit_reached, limit_at, refusal}
+use Rattle.router_core.specs.Lists.{lets_through}
 use Rattle.router_core.specs.Hearing.{Hearing, refusal_at, would_add, would_bring, brought_after, notes_of_new, notes_of_offer, notes_by_refusal}
 use Rattle.router_core.specs.Offers.{prefix_named}
 use Rattle.router_core.specs.declared.answer.NoteKind.{NoteKind}
@@ -21,7 +22,7 @@ and_false false = refl
 -- an interface without filters accepts every prefix
 pub accepts_all : (config : Config) (iface : ℕ) (p : Prefix6) → config.filters ≡ [] → is_accepted config iface p ≡ true
 accepts_all config iface p none =
-    ap (λ (fs : List Filter). not (is_rejected_by fs iface p) && (not (accepts_named_alone fs iface) || is_accepted_by fs iface p)) none
+    ap (λ (fs : List Filter). lets_through fs iface p) none
 
 -- without limits none is reached
 pub no_limit : (config : Config) (iface held : ℕ) → config.limits ≡ [] → is_limit_reached (limit_at config iface) held ≡ false

@@ -10,8 +10,7 @@ use Rattle.ripng_wire.specs.declared.rte.Rte.{Rte}
 use Rattle.ripng_wire.specs.Layout.{Spells}
 use Rattle.ripng_wire.proofs.Entries.{length_entries}
 use Rattle.route_table.specs.Route.{infinity}
-use Rattle.route_table.specs.Table.{Table, map_entries, map_values}
-use Rattle.route_table.proofs.TableLaws.{entries-map_values, len-map_values}
+use Rattle.route_table.specs.Table.{Table}
 use Rattle.router_core.specs.Adoption.{Gateway}
 use Rattle.router_core.specs.Ageing.{aged_table, unmarked, without_mark}
 use Rattle.router_core.specs.Changes.{forward, forwards, changes_of_start, changes_of_ageing, changes_of_hearing}
@@ -25,8 +24,6 @@ use Rattle.router_core.specs.Updates.{entries_in, update_due, update_of}
 use Rattle.router_core.specs.declared.answer.Answer.{Answer}
 use Rattle.router_core.specs.declared.answer.Note.{Note}
 use Rattle.router_core.specs.declared.answer.Outgoing.{Outgoing}
-use Rattle.router_core.specs.Settling.{told_route}
-use Rattle.router_core.specs.declared.tell.Selection.{Selection}
 use Rattle.router_core.specs.declared.tell.Selection.TheVariants.{Every, Changed}
 use Rattle.router_core.specs.declared.config.Interface.{Interface}
 use Rattle.router_core.proofs.AgeReplaying.{ageing_replays, link_down_replays, starting_replays}
@@ -116,8 +113,3 @@ pub lost_on_replays : (iface now : ℕ) (old new : Table) (changes : List RouteC
 lost_on_replays iface now old new changes settled listed =
     subst (λ (cs : List RouteChange). Replays (forwards old) cs (forwards new)) (sym listed)
     (subst (λ (t : Table). Replays (forwards old) (changes_of_link_down iface now old) (forwards t)) (sym settled) (link_down_replays iface now old))
-
--- no more routes are told than there are
-pub length-told : (now : ℕ) (which : Selection) (t : Table) → length (map_entries (told_route now which) (map_of.entries t)) ≤ map_of.len t
-length-told now which t =
-    omega (arith, ap length (entries-map_values (told_route now which) t), map_of.len-entries (map_values (told_route now which) t), len-map_values (told_route now which) t)

@@ -51,6 +51,18 @@ SpelledTo-next all rest old new m o s is = record {
 pub SpelledTo-end : (all : List Message) (old new : List Outgoing) → SpelledTo all [] old new → AddsSpelled all old new
 SpelledTo-end all old new s = record { added = s.added; behind = s.behind; spelled = subst (AreSpelled all) (append-nil s.added) (s.with_rest [] tt) }
 
+-- no message is spelled by nothing
+pub AddsSpelled-none : (messages : List Message) (old : List Outgoing) → messages ≡ [] → AddsSpelled messages old old
+AddsSpelled-none messages old none = subst (λ (ms : List Message). AddsSpelled ms old old) (sym none) (record { added = []; behind = sym (append-nil old); spelled = tt })
+
+-- one message, by one datagram
+pub AddsSpelled-one : (m : Message) (o : Outgoing) (old new : List Outgoing) → new ≡ old ++ o ∷ [] → IsSpelled m o → AddsSpelled (m ∷ []) old new
+AddsSpelled-one m o old new behind is = record { added = o ∷ []; behind = behind; spelled = (is, tt) }
+
+-- all that spells the messages, behind no older datagrams
+pub AddsSpelled-whole : (messages : List Message) (new : List Outgoing) → AddsSpelled messages [] new → AreSpelled messages new
+AddsSpelled-whole messages new adds = subst (AreSpelled messages) (sym adds.behind) adds.spelled
+
 added_one : (m : Message) (added : List Outgoing) → AreSpelled (m ∷ []) added → (o : Outgoing) × (added ≡ o ∷ []) × IsSpelled m o
 added_one m [] s = absurd s
 added_one m (o ∷ []) s = (o, refl, s.0)

@@ -1,20 +1,21 @@
--- Where an update has no datagram: a router is quiet, has no interface, or has no route to tell.
-use Rattle.std.proofs.Common.{◌≡◌, ◌↔◌, ℕ, ◌-◌, ◌/◌, ◌<◌, ◌≤◌, Bool, true, false, ◌||◌, not, cond, IsTrue, List, [], ◌∷◌, ◌++◌, map, filter, length, slice_get, Option, Some, None, unwrap_or, option_map, length-append, refl, ap, sym, subst, ◌∙◌, arith}
-use Rattle.std.specs.List.{enumerate_from, flat_map, list_any}
+-- Where an update has no datagram: on a passive interface, and on one that has no route to tell.
+use Rattle.std.proofs.Common.{◌≡◌, ◌↔◌, ℕ, zero, suc, ◌-◌, ◌/◌, ◌<◌, ◌≤◌, Bool, true, false, ◌||◌, not, cond, IsTrue, List, [], ◌∷◌, map, filter, length, slice_get, Option, Some, None, unwrap_or, option_map, length-append, refl, ap, sym, subst, ◌∙◌, arith}
+use Rattle.std.specs.List.{flat_map, list_any}
 use Rattle.std.specs.FinMap as map_of
-use Rattle.std.proofs.lemmas.List.{length-map}
+use Rattle.std.proofs.lemmas.List.{length-map, nil_from_length}
 use Rattle.std.proofs.lemmas.Nat.{le-div}
 use Rattle.ripng_wire.specs.declared.rte.Rte.{Rte}
 use Rattle.ripng_wire.specs.declared.rte.Command.TheVariants.{Response}
 use Rattle.ripng_wire.specs.Layout.{entries_for_mtu}
 use Rattle.route_table.specs.Route.{RouteValue}
 use Rattle.route_table.specs.Table.{Table}
+use Rattle.router_core.specs.Announcing.{is_passive, announced}
 use Rattle.router_core.specs.Config.{Config, IsConfig, mtu_at}
-use Rattle.router_core.specs.Output.{Message, responses, told, told_entry, update_messages}
+use Rattle.router_core.specs.Output.{Message, responses, told, told_entry, update_on}
 use Rattle.router_core.specs.declared.answer.Destination.{Destination}
 use Rattle.router_core.specs.declared.answer.Destination.TheVariants.{Group}
 use Rattle.router_core.specs.declared.config.Interface.{Interface}
-use Rattle.router_core.proofs.ConfigLaws.{some_interface, mtu_low, mtu_at-interface}
+use Rattle.router_core.proofs.ConfigLaws.{mtu_low, mtu_at-interface}
 use Rattle.router_core.proofs.Sending.{pieces-nil, pieces-cons}
 
 -- a list of which no element passes has nothing behind the filter
@@ -34,10 +35,6 @@ filter-some {X = X} p (x ∷ xs) some = by_test (p x) some (filter-some p xs)
     by_test : (b : Bool) → (b || list_any p xs) ≡ true → (list_any p xs ≡ true → 0 < length (filter p xs)) → 0 < length (cond b (x ∷ filter p xs) (filter p xs))
     by_test true is rest = omega arith
     by_test false is rest = rest is
-
-flat_map-none : {X Y : Type 0} (f : X → List Y) (xs : List X) → ((x : X) → f x ≡ []) → flat_map f xs ≡ []
-flat_map-none f [] none = refl
-flat_map-none f (x ∷ xs) none = ap (λ l. l ++ flat_map f xs) (none x) ∙ flat_map-none f xs none
 
 -- the MTU of IPv6 leaves room for an entry
 room : (mtu : ℕ) → 1280 ≤ mtu → 0 < entries_for_mtu mtu
@@ -68,45 +65,50 @@ module _ (c : Config) (lawful : IsConfig c) where
       (sym (pieces-cons (entries_for_mtu (mtu_at c i)) (some_room i) es some))
       (omega arith)
 
-  module _ (which : RouteValue → Bool) (t : Table) where
-    nothing_told : list_any (λ e. which e.1) (map_of.entries t) ≡ false → (i : ℕ) → told i which t ≡ []
-    nothing_told none i = ap (map (told_entry i)) (filter-none (λ e. which e.1) (map_of.entries t) none)
+  module _ (which : RouteValue → Bool) (t : Table) (i : ℕ) where
+    abbrev is_there : Bool
+    is_there = list_any (λ e. which e.1) (map_of.entries (announced c i t))
 
-    something_told : list_any (λ e. which e.1) (map_of.entries t) ≡ true → (i : ℕ) → 0 < length (told i which t)
-    something_told some i =
-        let h = filter-some (λ e. which e.1) (map_of.entries t) some in
-        omega (arith, length-map (filter (λ e. which e.1) (map_of.entries t)) (told_entry i))
+    nothing_told : is_there ≡ false → told i which (announced c i t) ≡ []
+    nothing_told none = ap (map (told_entry i)) (filter-none (λ e. which e.1) (map_of.entries (announced c i t)) none)
 
-    -- what is said on an interface
-    abbrev said : ℕ × Interface → List Message
-    said u = responses c u.0 Group (told u.0 which t)
+    something_told : is_there ≡ true → 0 < length (told i which (announced c i t))
+    something_told some =
+        let h = filter-some (λ e. which e.1) (map_of.entries (announced c i t)) some in
+        omega (arith, length-map (filter (λ e. which e.1) (map_of.entries (announced c i t))) (told_entry i))
 
-    said-nothing : list_any (λ e. which e.1) (map_of.entries t) ≡ false → flat_map said (enumerate_from 0 c.interfaces) ≡ []
-    said-nothing none =
-        flat_map-none said (enumerate_from 0 c.interfaces) (λ u. ap (responses c u.0 Group) (nothing_told none u.0) ∙ no_responses u.0 Group)
+    -- an interface that is not passive tells its update
+    pub says : is_passive c i ≡ false → update_on c which t i ≡ responses c i Group (told i which (announced c i t))
+    says active = ap (λ b. cond b [] (responses c i Group (told i which (announced c i t)))) active
 
-    said-something : list_any (λ e. which e.1) (map_of.entries t) ≡ true → (is : List Interface) → 0 < length is → 0 < length (flat_map said (enumerate_from 0 is))
-    said-something some [] h = absurd (omega arith)
-    said-something some (x ∷ is) h =
-        let first = some_responses 0 Group (told 0 which t) (something_told some 0) in
-        omega (arith, length-append (said (0, x)) (flat_map said (enumerate_from 1 is)))
+    -- an update has no datagram on a passive interface
+    pub passive_is_silent : is_passive c i ≡ true → update_on c which t i ≡ []
+    passive_is_silent passive = ap (λ b. cond b [] (responses c i Group (told i which (announced c i t)))) passive
 
-    -- an update of no route has no datagram
-    untold : list_any (λ e. which e.1) (map_of.entries t) ≡ false → update_messages c which t ≡ []
-    untold none = by_quiet c.quiet
+    -- nor where there is no route to tell
+    pub untold_is_silent : is_there ≡ false → update_on c which t i ≡ []
+    untold_is_silent none = by_passive (is_passive c i) (ap (responses c i Group) (nothing_told none) ∙ no_responses i Group)
       where
-        by_quiet : (b : Bool) → cond b [] (flat_map said (enumerate_from 0 c.interfaces)) ≡ []
-        by_quiet true = refl
-        by_quiet false = said-nothing none
+        by_passive : (b : Bool) → responses c i Group (told i which (announced c i t)) ≡ [] → cond b [] (responses c i Group (told i which (announced c i t))) ≡ []
+        by_passive true h = refl
+        by_passive false h = h
 
-    -- and one of some has one, unless the router is quiet
-    told_is_said : c.quiet ≡ false → list_any (λ e. which e.1) (map_of.entries t) ≡ true → update_messages c which t ≡ [] → ⊥
+    -- and elsewhere it has one
+    pub told_is_said : is_passive c i ≡ false → is_there ≡ true → update_on c which t i ≡ [] → ⊥
     told_is_said active some none =
-        let positive = said-something some c.interfaces (some_interface c lawful) in
-        let says : update_messages c which t ≡ flat_map said (enumerate_from 0 c.interfaces) = ap (λ b. cond b [] (flat_map said (enumerate_from 0 c.interfaces))) active in
-        omega (arith, positive, ap length (sym says ∙ none))
+        let positive = some_responses i Group (told i which (announced c i t)) (something_told some) in
+        omega (arith, positive, ap length (sym (says active) ∙ none))
 
-    -- an update of a router that is not quiet has no datagram exactly where there is no route to tell
-    pub is_untold : (some : Bool) → some ≡ list_any (λ e. which e.1) (map_of.entries t) → c.quiet ≡ false → IsTrue (not some) ↔ (update_messages c which t ≡ [])
-    is_untold true is active = (λ h. absurd (cc), λ none. absurd (told_is_said active (sym is) none))
-    is_untold false is active = (λ h. untold (sym is), λ none. refl)
+    -- so it has none on an interface that is not passive exactly where there is no route to tell
+    pub is_silent : is_passive c i ≡ false → (some : Bool) → some ≡ is_there → IsTrue (not some) ↔ (update_on c which t i ≡ [])
+    is_silent active true is = (λ h. absurd (cc), λ none. absurd (told_is_said active (sym is) none))
+    is_silent active false is = (λ h. untold_is_silent (sym is), λ none. refl)
+
+-- where an update has no datagram, it has none on any interface
+pub none_on : {X : Type 0} (f : X → List Message) (xs : List X) (i : ℕ) (x : X) → flat_map f xs ≡ [] → slice_get xs i ≡ Some x → f x ≡ []
+none_on f [] i x none is = absurd (cc)
+none_on f (y ∷ xs) zero x none is =
+    let same : y ≡ x = cc in
+    nil_from_length (f x) (omega (arith, ap (λ z. length (f z)) same, ap length none, length-append (f y) (flat_map f xs)))
+none_on f (y ∷ xs) (suc i) x none is =
+    none_on f xs i x (nil_from_length (flat_map f xs) (omega (arith, ap length none, length-append (f y) (flat_map f xs)))) is

@@ -38,6 +38,8 @@ router_a =
       quiet = false;
       filters = [];
       limits = [];
+      passive = [];
+      announcements = [];
     }
 
 -- 2001:db8::/32, and an entry that names it with bits past the length
@@ -339,6 +341,9 @@ start_requests = refl
 
 quiet_start : start_messages (record router_a { quiet = true }) ≡ []
 quiet_start = refl
+
+passive_start : start_messages (record router_a { passive = 0 ∷ [] }) ≡ record { iface = 1; to = Group; command = Request; entries = entry 0 0 16 ∷ [] } ∷ []
+passive_start = refl
 
 intervals : map (next_regular 0) (0 ∷ 30_000 ∷ 30_001 ∷ []) ≡ 15_000 ∷ 45_000 ∷ 15_000 ∷ []
 intervals = refl

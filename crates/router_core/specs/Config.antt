@@ -17,15 +17,28 @@ pub record Config : Type 0 where
   pub interfaces : List Interface
   pub prefixes : List (Prefix6 × ℕ)  -- with their tags
   pub quiet : Bool
-  pub filters : List Filter
+  pub filters : List Filter  -- of what comes in
   pub limits : List Limit
+  pub passive : List ℕ  -- the passive interfaces; all are where the router is quiet
+  pub announcements : List Filter  -- of what goes out
 
--- a configuration of these parts; a quiet router is passive
+-- a configuration of these parts, without passive interfaces and filters of what goes out; a quiet router is passive
 abbrev pub config_with : List Interface → List (Prefix6 × ℕ) → Bool → List Filter → List Limit → Config
-config_with interfaces prefixes quiet filters limits =
-    record { interfaces = interfaces; prefixes = prefixes; quiet = quiet; filters = filters; limits = limits }
+config_with interfaces prefixes quiet filters limits = record {
+  interfaces = interfaces;
+  prefixes = prefixes;
+  quiet = quiet;
+  filters = filters;
+  limits = limits;
+  passive = [];
+  announcements = [];
+}
 
--- the same without filters and limits
+-- the same with these passive interfaces and filters of what goes out
+abbrev pub announcing : Config → List ℕ → List Filter → Config
+announcing config passive announcements = record config { passive = passive; announcements = announcements }
+
+-- a configuration without filters and limits
 abbrev pub config : List Interface → List (Prefix6 × ℕ) → Bool → Config
 config interfaces prefixes quiet = config_with interfaces prefixes quiet [] []
 

@@ -1,5 +1,5 @@
 -- What a router sends: updates, Requests and replies (RFC 2080, 2.4.1, 2.5 and 2.6).
-use Rattle.std.specs.Prelude.{◌≡◌, ℕ, suc, zero, ◌+◌, ◌-◌, ◌*◌, ◌/◌, ◌==◌, ◌&&◌, nat_le, nat_lt, Bool, true, false, if◌then◌else◌, List, [], ◌∷◌, ◌++◌, map, length, filter, flat_map, slice_range, Option, Some, None}
+use Rattle.std.specs.Prelude.{◌≡◌, ℕ, suc, zero, ◌+◌, ◌-◌, ◌*◌, ◌/◌, ◌==◌, ◌&&◌, nat_le, nat_lt, Bool, true, false, if◌then◌else◌, List, [], ◌∷◌, ◌++◌, map, length, filter, flat_map, slice_range, All, Option, Some, None}
 use Rattle.std.specs.List.{enumerate_from}
 use Rattle.std.specs.FinMap as map_of
 use Rattle.prefix6.specs.Prefix.{Prefix6, cleared}
@@ -11,8 +11,10 @@ use Rattle.route_table.specs.Route.{RouteValue, infinity}
 use Rattle.route_table.specs.Table.{Table}
 use Rattle.route_table.specs.declared.route.Origin.{Origin}
 use Rattle.route_table.specs.declared.route.Origin.TheVariants.{Own, Learned}
+use Rattle.router_core.specs.Announcing.{is_passive, is_announced, announced}
 use Rattle.router_core.specs.Config.{Config, mtu_at}
 use Rattle.router_core.specs.Faults.{ripng_port}
+use Rattle.router_core.specs.Offers.{prefix_named}
 use Rattle.router_core.specs.Received.{Received}
 use Rattle.router_core.specs.declared.answer.Destination.{Destination}
 use Rattle.router_core.specs.declared.answer.Destination.TheVariants.{Group, Peer}
@@ -84,9 +86,15 @@ abbrev pub asks_for_all : List Rte → Bool
 asks_for_all (e ∷ []) = e.addr == 0 && e.len == 0 && e.metric == infinity
 asks_for_all _ = false
 
--- the entries of the reply to a Request: the whole table with split horizon, or entry by entry (RFC 2080, 2.4.1)
-abbrev pub reply : ℕ → Table → List Rte → List Rte
-reply iface table asked = if asks_for_all asked then told iface every_route table else map (reply_entry table) asked
+-- the reply to one entry on an interface: to a prefix that is not announced there, as if there were no route
+abbrev pub reply_on : Config → ℕ → Table → Rte → Rte
+reply_on config iface table e = if is_announced config iface (prefix_named e) then reply_entry table e else filled e None
+
+-- the entries of the reply to a Request: the whole table with split horizon, or entry by entry (RFC 2080, 2.4.1), of what is
+-- announced on the interface
+abbrev pub reply : Config → ℕ → Table → List Rte → List Rte
+reply config iface table asked =
+    if asks_for_all asked then told iface every_route (announced config iface table) else map (reply_on config iface table) asked
 
 -- a datagram before it is written as bytes
 pub record Message : Type 0 where
@@ -113,26 +121,46 @@ responses config iface to entries = responses_at (mtu_at config iface) iface to 
 abbrev pub request_on : ℕ → Message
 request_on iface = record { iface = iface; to = Group; command = Request; entries = whole_table_request ∷ [] }
 
--- the Requests of a router that starts (RFC 2080, 2.4.1); a passive one sends none (this project's choice)
+-- the Request of a router of its own on an interface (RFC 2080, 2.4.1); on a passive one it sends none (this project's choice)
+abbrev pub asked_on : Config → ℕ → List Message
+asked_on config iface = if is_passive config iface then [] else request_on iface ∷ []
+
+-- the Requests of a router that starts, on each interface (RFC 2080, 2.4.1)
 abbrev pub start_messages : Config → List Message
-start_messages config = if config.quiet then [] else map (λ t. request_on t.0) (enumerate_from 0 config.interfaces)
+start_messages config = flat_map (λ t. asked_on config t.0) (enumerate_from 0 config.interfaces)
 
--- the Request of a router when the link of an interface comes up: that of its start, on that interface alone. A passive router sends
--- none, and on an interface that is not there none is sent (this project's choice)
+-- the Request of a router when the link of an interface comes up: that of its start, on that interface alone. On an interface that is
+-- not there none is sent (this project's choice)
 abbrev pub link_up_messages : Config → ℕ → List Message
-link_up_messages config iface = if config.quiet then [] else if nat_lt iface (length config.interfaces) then request_on iface ∷ [] else []
+link_up_messages config iface = if nat_lt iface (length config.interfaces) then asked_on config iface else []
 
--- an update on each interface (RFC 2080, 2.5); a passive router sends none (this project's choice)
+-- the update on an interface, of what is announced there (RFC 2080, 2.5); on a passive one none is sent (this project's choice)
+abbrev pub update_on : Config → (RouteValue → Bool) → Table → ℕ → List Message
+update_on config which table iface =
+    if is_passive config iface then [] else responses config iface Group (told iface which (announced config iface table))
+
+-- an update on each interface (RFC 2080, 2.5)
 abbrev pub update_messages : Config → (RouteValue → Bool) → Table → List Message
-update_messages config which table =
-    if config.quiet then []
-    else flat_map (λ t. responses config t.0 Group (told t.0 which table)) (enumerate_from 0 config.interfaces)
+update_messages config which table = flat_map (λ t. update_on config which table t.0) (enumerate_from 0 config.interfaces)
 
--- the reply to a Request (RFC 2080, 2.4.1); a passive router does not reply to routers (this project's choice)
+-- the reply to a Request (RFC 2080, 2.4.1); on a passive interface routers get none (this project's choice)
 abbrev pub reply_messages : Config → Table → Received → List Rte → List Message
 reply_messages config table x asked =
-    if config.quiet && x.source_port == ripng_port then []
-    else responses config x.iface (Peer x.source x.source_port) (reply x.iface table asked)
+    if is_passive config x.iface && x.source_port == ripng_port then []
+    else responses config x.iface (Peer x.source x.source_port) (reply config x.iface table asked)
+
+-- an entry advertises a route of the table, on an interface that announces it
+pub record Advertises (config : Config) (iface : ℕ) (table : Table) (entry : Rte) : Type 0 where
+  pub prefix : Prefix6
+  pub route : RouteValue
+  pub is_held : map_of.get table prefix ≡ Some route
+  pub is_let_out : is_announced config iface prefix ≡ true
+  pub is_of_it : entry ≡ told_entry iface (prefix, route)
+
+-- a message goes out on an interface that is not passive, and has only what is announced there
+pub record KeepsToLists (config : Config) (table : Table) (m : Message) : Type 0 where
+  pub is_active : is_passive config m.iface ≡ false
+  pub each : All (Advertises config m.iface table) m.entries
 
 -- the datagram is the message, written as bytes
 pub record IsSpelled (m : Message) (o : Outgoing) : Type 0 where

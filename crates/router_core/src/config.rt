@@ -1,9 +1,12 @@
-//! The configuration of a router: its interfaces, the prefixes that it owns, and whether it is passive.
+//! The configuration of a router: its interfaces, the prefixes that it owns, where it is passive, and what its interfaces take and
+//! announce.
 
-ghost use Rattle.std.specs.Prelude.{◌≡◌, ◌<◌, true, false, not, All, Bool, IfOk, OnErr, OnOk, Some, length};
-ghost use Rattle.router_core.specs.Common.{result_err, IsPrefix, is_routable, same_prefix, first_reason, IsConfig, config, config_fault, reasons_of_each, interface_reasons, prefix_reasons, is_own_address, is_address_of_one, has_address, has_prefix, is_usable_cost, is_usable_mtu, config_refused_text, reconfigured_config, Config, config_with, is_accepted, limit_at};
+ghost use Rattle.std.specs.Prelude.{◌≡◌, ◌<◌, ◌≤◌, true, false, not, All, Bool, IfOk, OnErr, OnOk, Some, length};
+ghost use Rattle.router_core.specs.Common.{result_err, IsPrefix, is_routable, same_prefix, first_reason, IsConfig, config, config_fault, reasons_of_each, interface_reasons, prefix_reasons, is_own_address, is_address_of_one, has_address, has_prefix, is_usable_cost, is_usable_mtu, config_refused_text, reconfigured_config, Config, config_with, announcing, mtu_at};
 
-use crate::filter::{Filter, Limit, accepts_named_alone, is_accepted_by, is_rejected_by};
+mod lists;
+
+use crate::filter::{Filter, Limit};
 use crate::reconfiguring::Change;
 use prefix6::{Addr6, Prefix};
 use route_table::INFINITY;
@@ -90,12 +93,15 @@ pub struct RouterConfig {
     quiet: bool,
     filters: Vec<Filter>,
     limits: Vec<Limit>,
+    passive: Vec<usize>,
+    announcements: Vec<Filter>,
 }
 
 impl Model for RouterConfig {
     ghost Value = { Config };
 
-    ghost view = { λ c. config_with c.interfaces.items c.prefixes.items c.quiet c.filters.items c.limits.items };
+    ghost view = { λ c. announcing (config_with c.interfaces.items c.prefixes.items c.quiet c.filters.items c.limits.items)
+        c.passive.items c.announcements.items };
 
     ghost invariant = { λ c. IsConfig (config_with c.interfaces.items c.prefixes.items c.quiet c.filters.items c.limits.items) };
 }
@@ -232,21 +238,9 @@ impl RouterConfig {
             quiet: is_quiet,
             filters: Vec::new(alloc),
             limits: Vec::new(alloc),
+            passive: Vec::new(alloc),
+            announcements: Vec::new(alloc),
         })
-    }
-
-    /// The same configuration with these filters and limits in place of those that it had. Takes no memory.
-    pub fn filtered(self, filters: Vec<Filter>, limits: Vec<Limit>) -> RouterConfig
-        ensures value { result ≡ config_with self.interfaces self.prefixes self.quiet filters.items limits.items }
-        ensures lawful { IsConfig result }
-    {
-        RouterConfig {
-            interfaces: self.interfaces,
-            prefixes: self.prefixes,
-            quiet: self.quiet,
-            filters,
-            limits,
-        }
     }
 
     /// The interfaces, numbered from 0.
@@ -265,45 +259,11 @@ impl RouterConfig {
         &self.prefixes
     }
 
-    /// Whether the router is passive: it listens, and replies only to Requests from other ports than 521.
+    /// Whether the router is quiet, that is, passive on each interface.
     pub fn is_quiet(&self) -> bool
         ensures { result ≡ self.now.quiet }
     {
         self.quiet
-    }
-
-    /// The filters of all interfaces.
-    pub fn filters(&self) -> &[Filter]
-        ensures { result.now ≡ self.now.filters }
-    {
-        &self.filters
-    }
-
-    /// The limits of all interfaces.
-    pub fn limits(&self) -> &[Limit]
-        ensures { result.now ≡ self.now.limits }
-    {
-        &self.limits
-    }
-
-    /// Whether an interface takes routes to the prefix: no filter of it rejects the prefix, and one accepts it if there are any that
-    /// accept.
-    pub fn is_accepted(&self, iface: usize, prefix: Prefix) -> bool
-        ensures { result ≡ is_accepted self.now iface prefix }
-    {
-        !is_rejected_by(&self.filters, iface, prefix)
-            && (!accepts_named_alone(&self.filters, iface)
-                || is_accepted_by(&self.filters, iface, prefix))
-    }
-
-    /// The most routes that the table may hold by way of an interface, if it has a limit: the first that is given for it.
-    pub fn limit_at(&self, iface: usize) -> Option<usize>
-        ensures { result ≡ limit_at self.now iface }
-    {
-        self.limits
-            .iter()
-            .find(|l| l.iface == iface)
-            .map(|l| l.routes)
     }
 
     /// Whether the address is the router's own on the link of an interface: that of an interface in its zone.
@@ -361,5 +321,17 @@ impl RouterConfig {
         let (addr, len) = (prefix.addr(), prefix.len());
         self.prefixes
             .retain(|(p, _)| !(p.addr() == addr && p.len() == len));
+    }
+}
+
+/// The MTU of an interface in bytes, 1,280 to 65,535.
+pub fn mtu_at(config: &RouterConfig, iface: usize) -> u32
+    ensures value { result ≡ mtu_at config.now iface }
+    ensures low { 1280 ≤ result }
+    ensures high { result ≤ 65535 }
+{
+    match config.interfaces().get(iface) {
+        Some(interface) => interface.mtu,
+        None => LEAST_MTU,
     }
 }

@@ -151,21 +151,25 @@ fn hear_entry<S: RouteStore>(
 ) -> Result<Option<RouteChange>, NoteKind>
     requires { quota.old.limit ≡ limit_at config.now gateway.now.iface }
     ensures sound { OnOk result (flaw entry.now ≡ None) }
-    ensures taken { OnOk result (refusal config.now gateway.now.iface entry.now (brings (entry_meeting gateway.now entry.now next_hop place (S.table store.old))) quota.old.held ≡ None) }
+    ensures taken { OnOk result (refusal config.now gateway.now.iface entry.now
+        (brings (entry_meeting gateway.now entry.now next_hop place (S.table store.old))) quota.old.held ≡ None) }
     ensures table { OnOk result (S.table store.new ≡ table_met (entry_meeting gateway.now entry.now next_hop place (S.table store.old))) }
     ensures change { IfOk result (λ c. c ≡ change_met (entry_meeting gateway.now entry.now next_hop place (S.table store.old))) }
     ensures room { OnOk result (IsTrue (adds (entry_meeting gateway.now entry.now next_hop place (S.table store.old)))
         → map_of.len (S.table store.old) < table_limit) }
     ensures kept { OnErr result (S.table store.new ≡ S.table store.old) }
     ensures refusal { IfErr result (λ kind. kind ≡ unwrap_or (flaw entry.now) (unwrap_or
-        (refusal config.now gateway.now.iface entry.now (brings (entry_meeting gateway.now entry.now next_hop place (S.table store.old))) quota.old.held)
+        (refusal config.now gateway.now.iface entry.now
+        (brings (entry_meeting gateway.now entry.now next_hop place (S.table store.old))) quota.old.held)
         (refusal_of_new (S.table store.old)))) }
     ensures new { OnErr result (flaw entry.now ≡ None
-        → refusal config.now gateway.now.iface entry.now (brings (entry_meeting gateway.now entry.now next_hop place (S.table store.old))) quota.old.held ≡ None
+        → refusal config.now gateway.now.iface entry.now
+        (brings (entry_meeting gateway.now entry.now next_hop place (S.table store.old))) quota.old.held ≡ None
         → IsTrue (adds (entry_meeting gateway.now entry.now next_hop place (S.table store.old)))) }
     ensures limit { quota.new.limit ≡ quota.old.limit }
     ensures counted { OnOk result (IfSome quota.old.limit (λ n.
-        quota.new.held ≡ quota.old.held + (if brings (entry_meeting gateway.now entry.now next_hop place (S.table store.old)) then 1 else 0))) }
+        quota.new.held ≡ quota.old.held
+        + (if brings (entry_meeting gateway.now entry.now next_hop place (S.table store.old)) then 1 else 0))) }
     ensures uncounted { OnErr result (quota.new ≡ quota.old) }
 {
     let prefix = judge(entry)?;

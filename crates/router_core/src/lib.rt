@@ -63,8 +63,9 @@ pub use config::{
 };
 pub use filter::{Action, Filter, Limit};
 pub use laws::{
-    adopted_by_row, brought_is_held, changes_replay, held_is_size, limit_holds, nothing_is_refused,
-    owned_routes_stay, pieces_join, start_replays,
+    adopted_by_row, asks_on_all, brought_is_held, changes_replay, held_is_size, limit_holds,
+    nothing_is_kept_back, nothing_is_refused, owned_routes_stay, passive_interfaces_ask_nothing,
+    pieces_join, replies_keep_to_lists, start_replays, updates_keep_to_lists,
 };
 pub use listed::Listed;
 pub use offered::Offered;

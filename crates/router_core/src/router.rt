@@ -193,15 +193,6 @@ impl<S: RouteStore> Router<S> {
         }
     }
 
-    /// Whether an update has no datagram: the router is passive, or there is no route to send.
-    fn is_silent(&self, which: Selection, now: Moment) -> bool
-        ensures { IsTrue result ↔ (update_of self.now now (Some which) ≡ []) }
-    {
-        self.config.is_quiet()
-            || self.config.interfaces().is_empty()
-            || !has_told(&self.store, which, now)
-    }
-
     /// The datagrams of an update.
     fn update(&self, due: Option<Selection>, now: Moment) -> Result<Vec<Outgoing>, AllocError>
         ensures spelled { IfOk result (λ sends. AreSpelled (update_of self.now now due) sends.items) }
@@ -211,9 +202,6 @@ impl<S: RouteStore> Router<S> {
         let Some(which) = due else {
             return Ok(Vec::new(self.alloc));
         };
-        if self.is_silent(which, now) {
-            return Ok(Vec::new(self.alloc));
-        }
         updates(self.alloc, &self.config, &self.store, which, now)
     }
 

@@ -1,8 +1,8 @@
 //! A router starts: its table has its own prefixes, and it asks its neighbors for their tables (RFC 2080, section 2.4.1). So it does
 //! on one interface when the link there comes up.
 
-ghost use Rattle.std.specs.Prelude.{◌≡◌, ◌≤◌, true, length, IsOk, IfOk};
-ghost use Rattle.router_core.specs.Common.{changes_of_start, owned_table, AreSpelled, IsSpelled, link_up_messages, request_on, start_messages};
+ghost use Rattle.std.specs.Prelude.{◌≡◌, ℕ, ◌≤◌, ◌+◌, true, length, IsOk, IfOk, OnOk};
+ghost use Rattle.router_core.specs.Common.{AddsSpelled, asked_on, changes_of_start, is_passive, owned_table, AreSpelled, IsSpelled, link_up_messages, request_on, start_messages};
 
 use crate::answer::{Destination, Outgoing};
 use crate::config::RouterConfig;
@@ -34,26 +34,41 @@ fn request(alloc: Global, iface: usize) -> Result<Outgoing, AllocError>
     })
 }
 
-/// A Request for the whole table on each interface, to the group. A passive router sends none.
+/// Adds the Request of the router's own on an interface: for the whole table, to the group. On a passive one there is none.
+fn push_request(
+    alloc: Global,
+    sends: &mut Vec<Outgoing>,
+    config: &RouterConfig,
+    iface: usize,
+) -> Result<(), AllocError>
+    ensures spelled { OnOk result (AddsSpelled (asked_on config.now iface) sends.old.items sends.new.items) }
+    ensures few { OnOk result (length sends.new.items ≤ length sends.old.items + 1) }
+    ensures passive { is_passive config.now iface ≡ true → IsOk result }
+{
+    if config.is_passive(iface) {
+        return Ok(());
+    }
+    sends.push(request(alloc, iface)?)?;
+    Ok(())
+}
+
+/// A Request for the whole table on each interface that is not passive, to the group.
 ///
 /// # Errors
-/// Only out of memory, and never for a passive router.
+/// Only out of memory, and never where all interfaces are passive.
 pub fn requests(alloc: Global, config: &RouterConfig) -> Result<Vec<Outgoing>, AllocError>
     ensures spelled { IfOk result (λ sends. AreSpelled (start_messages config.now) sends.items) }
     ensures few { IfOk result (λ sends. length sends.items ≤ length config.now.interfaces) }
-    ensures quiet { config.now.quiet ≡ true → IsOk result }
+    ensures free { ((iface : ℕ) → is_passive config.now iface ≡ true) → IsOk result }
 {
-    if config.is_quiet() {
-        return Ok(Vec::new(alloc));
-    }
-    let mut sends = Vec::with_capacity(alloc, config.interfaces().len())?;
+    let mut sends = Vec::new(alloc);
     for iface in 0..config.interfaces().len() {
-        sends.push_reserved(request(alloc, iface)?);
+        push_request(alloc, &mut sends, config, iface)?;
     }
     Ok(sends)
 }
 
-/// A Request for the whole table on one interface, to the group. A passive router sends none, and none goes where no interface is.
+/// A Request for the whole table on one interface, to the group. On a passive one there is none, and none goes where no interface is.
 ///
 /// # Errors
 /// Only out of memory.
@@ -66,9 +81,10 @@ pub fn request_on(
     ensures few { IfOk result (λ sends. length sends.items ≤ 1) }
 {
     let mut sends = Vec::new(alloc);
-    if !config.is_quiet() && iface < config.interfaces().len() {
-        sends.push(request(alloc, iface)?)?;
+    if iface >= config.interfaces().len() {
+        return Ok(sends);
     }
+    push_request(alloc, &mut sends, config, iface)?;
     Ok(sends)
 }
 

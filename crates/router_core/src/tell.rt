@@ -1,14 +1,14 @@
 //! What a router advertises: updates of all routes or of the changed ones, by split horizon with poisoned reverse (RFC 2080,
 //! sections 2.5 and 2.6).
 
-ghost use Rattle.std.specs.Prelude.{◌≡◌, ◌≤◌, ◌+◌, ◌*◌, [], ◌∷◌, true, length, map, IsOk, IfOk, OnOk};
-ghost use Rattle.router_core.specs.Common.{Response, Spells, most_entries, map_entries, AddsSpelled, AreSpelled, responses_at, selected, told_entry, told_message, update_messages, settled_table, told_route, Group};
+ghost use Rattle.std.specs.Prelude.{◌≡◌, ◌≤◌, ◌+◌, ◌*◌, ◌↔◌, [], ◌∷◌, false, length, map, IsOk, IfOk, OnOk, IsTrue};
+ghost use Rattle.router_core.specs.Common.{Response, Spells, most_entries, map_entries, AddsSpelled, AreSpelled, IsConfig, announced_of, is_passive, responses, selected, told_entry, told_message, update_on, update_messages, settled_table, told_route, Group};
 ghost use Rattle.std.specs.FinMap as map_of;
 
 use crate::answer::{Destination, Outgoing};
-use crate::config::RouterConfig;
+use crate::config::{RouterConfig, mtu_at};
 use crate::listed::Listed;
-use crate::listing::told_run;
+use crate::listing::{Part, has_announced, told_run};
 use prefix6::Prefix;
 use ripng_wire::{Command, Rte, encode_entry, encode_header, entries_for_mtu};
 use route_table::{INFINITY, Moment, Origin, Route, RouteStore};
@@ -74,20 +74,22 @@ pub fn listed<S: RouteStore>(alloc: Global, store: &S) -> Result<Vec<(Prefix, Ro
     Ok(routes)
 }
 
-/// The entries that advertise these routes on an interface.
+/// The entries that advertise those of the routes that an interface announces.
 ///
 /// # Errors
 /// Only out of memory.
 pub fn told_on(
     alloc: Global,
+    config: &RouterConfig,
     iface: usize,
     routes: &[(Prefix, Route)],
 ) -> Result<Vec<Rte>, AllocError>
-    ensures value { IfOk result (λ v. v.items ≡ map (told_entry iface) routes.now) }
+    ensures value { IfOk result (λ v. v.items ≡ map (told_entry iface) (announced_of config.now iface routes.now)) }
     ensures few { IfOk result (λ v. length v.items ≤ length routes.now) }
 {
     routes
         .iter()
+        .filter(|(prefix, _)| config.is_announced(iface, *prefix))
         .map(|&(prefix, route)| told_entry(iface, prefix, route))
         .collect(alloc)
 }
@@ -133,23 +135,22 @@ fn push_piece(
 fn push_update<S: RouteStore>(
     alloc: Global,
     sends: &mut Vec<Outgoing>,
+    config: &RouterConfig,
     iface: usize,
-    mtu: u32,
     store: &S,
     which: Selection,
     now: Moment,
 ) -> Result<(), AllocError>
-    requires low { 1280 ≤ mtu }
-    requires high { mtu ≤ 65535 }
-    ensures spelled { let all = map_entries (told_route now which) (map_of.entries (S.table store.now)) in
-        OnOk result (AddsSpelled (responses_at mtu iface Group (map (told_entry iface) all)) sends.old.items sends.new.items) }
+    ensures spelled { let all = map_entries (told_route now which) (announced_of config.now iface (map_of.entries (S.table store.now))) in
+        OnOk result (AddsSpelled (responses config.now iface Group (map (told_entry iface) all)) sends.old.items sends.new.items) }
     ensures few { OnOk result (length sends.new.items ≤ length sends.old.items + map_of.len (S.table store.now)) }
 {
     // A datagram holds as many entries as the MTU of the link allows; the rest go into further datagrams (section 2.1).
-    let room = entries_for_mtu(mtu);
+    let room = entries_for_mtu(mtu_at(config, iface));
     let mut after = None;
     for _done in 0..store.len() {
-        let piece = told_run(alloc, store, which, now, after, room)?;
+        let part = Part { after, most: room };
+        let piece = told_run(alloc, store, config, iface, which, now, part)?;
         let Some(last) = piece.last() else {
             return Ok(());
         };
@@ -159,10 +160,52 @@ fn push_update<S: RouteStore>(
     Ok(())
 }
 
-/// An update on each interface, to the group. A passive router sends none.
+/// Whether the update has no datagram on an interface: it is passive, or there is no route to advertise.
+fn is_silent_on<S: RouteStore>(
+    config: &RouterConfig,
+    iface: usize,
+    store: &S,
+    which: Selection,
+    now: Moment,
+) -> bool
+    ensures value { IsTrue result ↔ (update_on config.now (selected which) (settled_table now which (S.table store.now)) iface ≡ []) }
+    ensures active { result ≡ false → is_passive config.now iface ≡ false }
+    ensures lawful { IsConfig config.now }
+{
+    if config.is_passive(iface) {
+        true
+    } else {
+        !has_announced(store, config, iface, which, now)
+    }
+}
+
+/// Adds the update on an interface, of what is announced there. On a passive one there is none. Takes no memory where it has no
+/// datagram.
+fn push_update_on<S: RouteStore>(
+    alloc: Global,
+    sends: &mut Vec<Outgoing>,
+    config: &RouterConfig,
+    iface: usize,
+    store: &S,
+    which: Selection,
+    now: Moment,
+) -> Result<(), AllocError>
+    ensures spelled { OnOk result (AddsSpelled (update_on config.now (selected which) (settled_table now which (S.table store.now)) iface)
+        sends.old.items sends.new.items) }
+    ensures few { OnOk result (length sends.new.items ≤ length sends.old.items + map_of.len (S.table store.now)) }
+    ensures silent_is_free { update_on config.now (selected which) (settled_table now which (S.table store.now)) iface ≡ [] → IsOk result }
+{
+    if is_silent_on(config, iface, store, which, now) {
+        Ok(())
+    } else {
+        push_update(alloc, sends, config, iface, store, which, now)
+    }
+}
+
+/// An update on each interface that is not passive, to the group.
 ///
 /// # Errors
-/// Only out of memory, and never for a passive router.
+/// Only out of memory, and never where the update has no datagram.
 pub fn updates<S: RouteStore>(
     alloc: Global,
     config: &RouterConfig,
@@ -172,14 +215,11 @@ pub fn updates<S: RouteStore>(
 ) -> Result<Vec<Outgoing>, AllocError>
     ensures spelled { IfOk result (λ sends. AreSpelled (update_messages config.now (selected which) (settled_table now which (S.table store.now))) sends.items) }
     ensures few { IfOk result (λ sends. length sends.items ≤ map_of.len (S.table store.now) * length config.now.interfaces) }
-    ensures quiet { config.now.quiet ≡ true → IsOk result }
+    ensures silent_is_free { update_messages config.now (selected which) (settled_table now which (S.table store.now)) ≡ [] → IsOk result }
 {
     let mut sends = Vec::new(alloc);
-    if config.is_quiet() {
-        return Ok(sends);
-    }
-    for (iface, interface) in config.interfaces().iter().enumerate() {
-        push_update(alloc, &mut sends, iface, interface.mtu, store, which, now)?;
+    for iface in 0..config.interfaces().len() {
+        push_update_on(alloc, &mut sends, config, iface, store, which, now)?;
     }
     Ok(sends)
 }

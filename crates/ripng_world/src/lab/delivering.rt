@@ -20,15 +20,6 @@ pub struct Pair {
 }
 
 impl<S: RouteStore> Running<S> {
-    /// Whether the interface is another one of the datagram's link.
-    fn is_other(&self, datagram: &Sent, router: usize, iface: usize) -> bool
-        ensures { result ≡ is_other self.now.network datagram.now (router, iface) }
-    {
-        let own = self.link(datagram.router, datagram.iface);
-        let is_sender = router == datagram.router && iface == datagram.iface;
-        own.is_some() && own == self.link(router, iface) && !is_sender
-    }
-
     /// The other interfaces of a datagram's link, each after its router's number, in order: where it may come.
     ///
     /// # Errors
@@ -36,15 +27,13 @@ impl<S: RouteStore> Running<S> {
     pub fn receivers(&self, datagram: &Sent) -> Result<Vec<(usize, usize)>, AllocError>
         ensures { IfOk result (λ receivers. receivers.items ≡ filter (is_other self.now.network datagram.now) (interfaces_of self.now.network)) }
     {
-        let mut receivers = Vec::new(self.alloc);
-        for (router, station) in self.stations.iter().enumerate() {
-            let interfaces = (0..station.interfaces().len()).map(|iface| (router, iface));
-            let others = interfaces.filter(|&(router, iface)| self.is_other(
-                datagram, router, iface,
-            ));
-            receivers.extend(others)?;
-        }
-        Ok(receivers)
+        let Some(link) = self.link(datagram.router, datagram.iface) else {
+            return Ok(Vec::new(self.alloc));
+        };
+        let others = self.links.on(link).iter().copied().filter(|&(router, iface)| {
+            !(router == datagram.router && iface == datagram.iface)
+        });
+        others.collect(self.alloc)
     }
 
     /// Each datagram from a number on, with each other interface of its link, in order.

@@ -20,6 +20,8 @@ invariant_of-result c =
       sym items ∙ sym (ap (λ (k : Config). k.interfaces) c.in-Ok.ensures.kept),
       ap (λ (k : Config). k.filters) c.in-Ok.ensures.kept,
       ap (λ (k : Config). k.limits) c.in-Ok.ensures.kept,
+      ap (λ (k : Config). k.passive) c.in-Ok.ensures.kept,
+      ap (λ (k : Config). k.announcements) c.in-Ok.ensures.kept,
     )
 
 pub returns-in-Ok-clause-passes : goal.returns-in-Ok-clause-passes
@@ -44,7 +46,7 @@ returns-in-Ok-clause-lawful c =
     let same : config c.in_ok-without_links.without_links.items c.node.inside.prefixes.items c.node.inside.quiet ≡ config_of c.args.node =
     ap (λ (is : List Interface). config is c.node.inside.prefixes.items c.node.inside.quiet) items ∙ ap config_of c.node.view_is in (
       subst IsConfig (c.in-Ok.ensures.kept ∙ same) c.in-Ok.ensures.lawful,
-      (ap (λ (n : Node). n.filters) (sym c.node.view_is), ap (λ (n : Node). n.limits) (sym c.node.view_is)),
+      (ap (λ (n : Node). n.filters) (sym c.node.view_is), ap (λ (n : Node). n.limits) (sym c.node.view_is), ap (λ (n : Node). n.passive) (sym c.node.view_is), ap (λ (n : Node). n.announcements) (sym c.node.view_is)),
     )
 
 pub returns-in-Err-clause-refused : goal.returns-in-Err-clause-refused

@@ -1,7 +1,9 @@
 use Rattle.std.proofs.Common.{◌≡◌, ◌≤◌, max, length, ap, ◌∙◌, sym, arith}
 use Rattle.std.specs.Prelude.{map}
 use Rattle.std.specs.FinMap as map_of
+use Rattle.router_core.specs.Announcing.{announced, announced_of}
 use Rattle.router_core.specs.Output.{told_entry}
+use Rattle.router_core.proofs.Announced.{announced_entries}
 use Rattle.router_core.proofs.DueRoutes.{filter-all}
 use Rattle.std.proofs.lemmas.Result.{IfOk-weaker}
 use Rattle.router_core.proofs.reply.entries.Goals as goal
@@ -16,5 +18,11 @@ returns-then-asks_for_all-clause-few g c =
 pub returns-then-asks_for_all-clause-value : goal.returns-then-asks_for_all-clause-value
 returns-then-asks_for_all-clause-value g c =
     let t = g.S.RouteStore.table c.args.store.now in
+    let config = c.args.config.now in
     rw (sym c.asks_for_all.ensures ∙ c.if-asks_for_all.true)
-    (IfOk-weaker c.told_on.result _ _ (λ v is. is ∙ ap (map (told_entry c.args.iface)) (c.deref.ensures.value ∙ c.in_ok-listed.ensures ∙ filter-all (map_of.entries t))) c.told_on.ensures.value)
+    (IfOk-weaker c.told_on.result _ _ (λ v is.
+    is
+    ∙ ap (map (told_entry c.args.iface)) (
+    ap (announced_of config c.args.iface) (c.deref.ensures.value ∙ c.in_ok-listed.ensures)
+    ∙ sym (announced_entries config c.args.iface t)
+    ∙ filter-all (map_of.entries (announced config c.args.iface t)))) c.told_on.ensures.value)

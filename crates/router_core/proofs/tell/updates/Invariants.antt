@@ -1,17 +1,16 @@
-use Rattle.std.proofs.Common.{◌≤◌, ◌*◌, take, length, map}
+use Rattle.std.proofs.Common.{◌≡◌, ◌≤◌, ◌*◌, take, length}
 use Rattle.std.specs.List.{enumerate_from, flat_map}
-use Rattle.std.specs.FinMap.{entries, len}
-use Rattle.route_table.specs.Table.{map_entries}
-use Rattle.router_core.specs.Output.{AreSpelled, responses, told_entry}
-use Rattle.router_core.specs.Settling.{told_route}
-use Rattle.router_core.specs.declared.answer.Destination.TheVariants.{Group}
+use Rattle.std.specs.FinMap.{len}
+use Rattle.router_core.specs.Output.{AreSpelled, selected, update_on}
+use Rattle.router_core.specs.Settling.{settled_table}
 use Rattle.router_core.proofs.tell.updates.Given as goal
 
 abbrev pub invariant-loop-iface : goal.invariant-loop-iface
 invariant-loop-iface g l =
-    let t = g.S.RouteStore.table l.fn.store in
-    let all = map_entries (told_route l.fn.now l.fn.which) (entries t) in
+    let stored = g.S.RouteStore.table l.store in
+    let t = settled_table l.now l.which stored in
     record {
-      spelled : AreSpelled (flat_map (λ t. responses l.fn.config t.0 Group (map (told_entry t.0) all)) (take l.iface (enumerate_from 0 l.fn.config.interfaces))) l.sends.items;
-      few : length l.sends.items ≤ len t * l.iface;
+      end : l.iface-end ≡ length l.config.interfaces;
+      spelled : AreSpelled (flat_map (λ u. update_on l.config (selected l.which) t u.0) (take l.iface (enumerate_from 0 l.config.interfaces))) l.sends.items;
+      few : length l.sends.items ≤ len stored * l.iface;
     }

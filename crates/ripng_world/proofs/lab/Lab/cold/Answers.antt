@@ -73,8 +73,8 @@ module _ (g : _) (c : goal.After-new g) where
 pub returns-clause-keeps : goal.returns-clause-keeps
 returns-clause-keeps g c = keeps _ (has_run g c)
 
-pub invariant_of-result : goal.invariant_of-result
-invariant_of-result g c = has_run g c
+pub invariant_of-result-2 : goal.invariant_of-result-2
+invariant_of-result-2 g c = has_run g c
 
 pub returns-clause-cold : goal.returns-clause-cold
 returns-clause-cold g c =

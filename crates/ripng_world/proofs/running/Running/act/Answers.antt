@@ -1,13 +1,15 @@
-use Rattle.std.proofs.Common.{◌≡◌, ℕ, ◌∷◌, [], ◌++◌, inr, List, Some, map, slice_get, sym, subst, ◌∙◌, ap, arith, rules}
+use Rattle.std.proofs.Common.{◌≡◌, ℕ, ◌∷◌, [], ◌++◌, inr, List, Some, map, slice_get, refl, sym, subst, ◌∙◌, ap, arith, rules}
 use Rattle.router_core.specs.declared.reconfiguring.Change.{Change}
 use Rattle.ripng_world.specs.Events.{event_of}
 use Rattle.ripng_world.specs.Labs.{LabValue, IsPlacedIn}
+use Rattle.ripng_world.specs.Linked.{AreListed}
+use Rattle.ripng_world.specs.Network.{Network}
 use Rattle.ripng_world.specs.Rounds.{router_of}
 use Rattle.ripng_world.specs.Stations.{StationValue, IsFor, network_of}
 use Rattle.ripng_world.specs.World.{Deliver, address_at, reconfigurations_in, sent_by}
 use Rattle.ripng_world.specs.declared.event.Event.{Event}
 use Rattle.ripng_world.specs.declared.event.Sent.{Sent}
-use Rattle.ripng_world.proofs.StationMoves.{acts, err_is, network_kept, no_change, no_source, same_source, something, state_at, station_at}
+use Rattle.ripng_world.proofs.StationMoves.{acts, err_is, network_kept, no_change, no_source, placed_at, same_source, something, state_at, station_at, unmoved}
 use Rattle.ripng_world.proofs.running.Running.act.Goals as goal
 use Rattle.ripng_world.proofs.running.Running.act.Goals.{in-Deliver, in_default, in-Reconfigure, in_default-event}
 
@@ -79,3 +81,82 @@ returns-clause-acts g c =
           rw (w.self-inside-is, ← c.self.view_is) (moved _ done (search rules))
       | in_default-event w ↦ rw (w.self-inside-is, ← c.self.view_is) (moved _ (c.in_ok-reserve-2.ensures.items ∙ no_change c.args.event.now cs w.in_default-event.not-Reconfigure) (search rules))
     ]
+
+-- the links are those of the same network
+pub invariant_of-self-2 : goal.invariant_of-self-2
+invariant_of-self-2 g c =
+    let e = event_of c.args.event.now in
+    let p = subst (λ (l : LabValue). IsPlacedIn l e) (sym c.self.view_is) c.requires in
+    let stations = c.self.inside.stations.items in
+    let r = c.router-router.result in
+    let old = c.index_mut-station.result.now in
+    let here = station_at stations c.self.inside.sent.items c.self.inside.reconfigurations.items e r c.router-router.ensures p old c.index_mut-station.ensures.value in
+    let listed = subst (λ (net : Network). AreListed net c.self.inside.links) (sym (network_kept stations r old c.happen.new.self here c.in_ok-answer.ensures.node)) c.self.invariant in
+    elim c.match-event-2.branch [
+      | in-Reconfigure w ↦ rw (w.self-inside-is) listed
+      | in_default-event w ↦ rw (w.self-inside-is) listed
+    ]
+
+-- the router of the event is there, and the event is placed at it
+pub room-room-requires : goal.room-room-requires
+room-room-requires g c =
+    let e = event_of c.args.event.now in
+    let p = subst (λ (l : LabValue). IsPlacedIn l e) (sym c.self.view_is) c.requires in
+    let stations = c.self.inside.stations.items in
+    let sent = c.self.inside.sent.items in
+    let cs = c.self.inside.reconfigurations.items in
+    let r = c.router-router.result in
+    let old = c.index_mut-station.result.now in
+    let here = station_at stations sent cs e r c.router-router.ensures p old c.index_mut-station.ensures.value in
+    placed_at stations sent cs e r c.router-router.ensures p old here c.deref-2.result.now c.deref-2.ensures.value
+
+pub happen-requires : goal.happen-requires
+happen-requires g c =
+    let e = event_of c.args.event.now in
+    let p = subst (λ (l : LabValue). IsPlacedIn l e) (sym c.self.view_is) c.requires in
+    let stations = c.self.inside.stations.items in
+    let sent = c.self.inside.sent.items in
+    let cs = c.self.inside.reconfigurations.items in
+    let r = c.router-router.result in
+    let old = c.index_mut-station.result.now in
+    let here = station_at stations sent cs e r c.router-router.ensures p old c.index_mut-station.ensures.value in
+    placed_at stations sent cs e r c.router-router.ensures p old here c.deref-3.result.now (c.deref-3.ensures.value ∙ c.in_ok-reserve.ensures.items)
+
+-- where memory or the router refuses, nothing moves
+pub returns-in_err-reserve-clause-err : goal.returns-in_err-reserve-clause-err
+returns-in_err-reserve-clause-err g c =
+    let e = event_of c.args.event.now in
+    let p = subst (λ (l : LabValue). IsPlacedIn l e) (sym c.self.view_is) c.requires in
+    let stations = c.self.inside.stations.items in
+    let sent = c.self.inside.sent.items in
+    let cs = c.self.inside.reconfigurations.items in
+    let r = c.router-router.result in
+    let old = c.index_mut-station.result.now in
+    let here = station_at stations sent cs e r c.router-router.ensures p old c.index_mut-station.ensures.value in
+    unmoved stations sent cs e r c.router-router.ensures p old here c.from_residual.result c.args.self.now old c.reserve.new.self.items cs c.self.view_is refl c.in_err-reserve.ensures.items refl
+
+pub returns-in_err-reserve-2-clause-err : goal.returns-in_err-reserve-2-clause-err
+returns-in_err-reserve-2-clause-err g c =
+    let e = event_of c.args.event.now in
+    let p = subst (λ (l : LabValue). IsPlacedIn l e) (sym c.self.view_is) c.requires in
+    let stations = c.self.inside.stations.items in
+    let sent = c.self.inside.sent.items in
+    let cs = c.self.inside.reconfigurations.items in
+    let r = c.router-router.result in
+    let old = c.index_mut-station.result.now in
+    let here = station_at stations sent cs e r c.router-router.ensures p old c.index_mut-station.ensures.value in
+    unmoved stations sent cs e r c.router-router.ensures p old here c.from_residual-in_err-reserve-2.result c.args.self.now old c.reserve.new.self.items c.reserve-2.new.self.items c.self.view_is
+    refl c.in_ok-reserve.ensures.items c.in_err-reserve-2.ensures.items
+
+pub returns-in_err-answer-clause-err : goal.returns-in_err-answer-clause-err
+returns-in_err-answer-clause-err g c =
+    let e = event_of c.args.event.now in
+    let p = subst (λ (l : LabValue). IsPlacedIn l e) (sym c.self.view_is) c.requires in
+    let stations = c.self.inside.stations.items in
+    let sent = c.self.inside.sent.items in
+    let cs = c.self.inside.reconfigurations.items in
+    let r = c.router-router.result in
+    let old = c.index_mut-station.result.now in
+    let here = station_at stations sent cs e r c.router-router.ensures p old c.index_mut-station.ensures.value in
+    unmoved stations sent cs e r c.router-router.ensures p old here c.from_residual-in_err-answer.result c.args.self.now c.happen.new.self c.reserve.new.self.items c.reserve-2.new.self.items c.self.view_is
+    c.in_err-answer.ensures.err c.in_ok-reserve.ensures.items c.in_ok-reserve-2.ensures.items

@@ -3,7 +3,7 @@ use Rattle.std.proofs.lemmas.Option.{slice_get_past}
 use Rattle.router_core.specs.declared.config.Interface.{Interface}
 use Rattle.router_core.proofs.ConfigLaws.{mtu_low, mtu_high}
 use Rattle.router_core.proofs.Sending.{element_at}
-use Rattle.router_core.proofs.reply.mtu_at.Goals as goal
+use Rattle.router_core.proofs.config.mtu_at.Goals as goal
 
 here : (c : goal.In-Some) → slice_get c.args.config.now.interfaces c.args.iface ≡ Some c.in-Some.interface.now
 here c =
