@@ -12,7 +12,7 @@ pub use Rattle.ripngd_engine.specs.Log.{HasNoLineFeed, hop_text, route_text, cha
 pub use Rattle.ripngd_engine.specs.Observer.{LinkReport, Processed, Sent}
 pub use Rattle.ripngd_engine.specs.Outlet.{HandsOver, outlet_seen, CarriesOut}
 pub use Rattle.ripngd_engine.specs.Past.{Past}
-pub use Rattle.ripngd_engine.specs.Peers.{has_clash, is_real}
+pub use Rattle.ripngd_engine.specs.Peers.{has_clash, is_real, sender_of}
 pub use Rattle.ripngd_engine.specs.Run.{counted, TicksOnce}
 pub use Rattle.ripngd_engine.specs.Seen.{Seen, Ran, Held, seen, untouched, Started, TurnsAnswer, TurnsObserved}
 pub use Rattle.ripngd_engine.specs.Telling.{Gains}

@@ -1,7 +1,7 @@
 //! The sockets of an interface, and the ports of its neighbors where its link is made of sockets of 127.0.0.1.
 
 ghost use Rattle.std.specs.Prelude.{◌≡◌};
-ghost use Rattle.ripngd_engine.specs.Common.{has_clash, is_real};
+ghost use Rattle.ripngd_engine.specs.Common.{has_clash, is_real, sender_of};
 
 use prefix6::Addr6;
 
@@ -81,8 +81,10 @@ pub fn has_clash(peers: &[Peer], peer: &Peer) -> bool
 }
 
 impl Peer {
-    /// As what its datagrams are taken.
-    pub fn sender(&self) -> Sender {
+    /// As what its datagrams are taken: its address, its port, its hop limit, and whether they come to the group.
+    pub fn sender(&self) -> Sender
+        ensures { result ≡ sender_of self.now }
+    {
         Sender {
             addr: self.addr,
             port: self.port,

@@ -1,8 +1,10 @@
 pub mod Peers
 pub mod Udp
 pub mod Real
+pub mod Sending
 pub mod Moments
 pub mod SendQueue
 pub mod ReceiveQueue
+pub mod Requests
 pub mod Counting
 pub mod Common

@@ -1,18 +1,21 @@
 //! The sockets of an interface, with its queues of received datagrams and of those that wait to be sent.
 
-ghost use Rattle.std.specs.Prelude.{◌≡◌, ◌≤◌, IfErr, IfOk, length, vec_len};
-ghost use Rattle.ripngd_udp.specs.Common.{Grows, NamesSocketOf};
+ghost use Rattle.std.specs.Prelude.{◌≡◌, ◌≤◌, IfErr, IfOk, IfSome, IsNone, length, true, vec_len};
+ghost use Rattle.ripngd_udp.specs.Common.{GivesNone, Grows, Judges, NamesSocketOf, is_command, is_taken};
 
+use crate::known::Known;
+use crate::link_sockets::LinkSockets;
 use crate::peer_table::PeerTable;
 use crate::receive_queue::ReceiveQueue;
 use crate::send_queue::SendQueue;
 use crate::udp::{BindCause, UdpError};
 use crate::waiting::Polled;
-use ripngd_engine::{LinkFault, Place, Socket};
-use router_core::MAX_HOP_LIMIT;
+use prefix6::Addr6;
+use ripng_wire::Command;
+use ripngd_engine::{LinkFault, Place, Received};
 use std::alloc::Global;
 use std::io::{self, ErrorKind};
-use std::net::{Net, SocketAddr, UdpSocket};
+use std::net::Net;
 
 /// How many datagrams are read from one socket before the next socket: more than its buffer holds.
 const TAKEN_AT_ONCE: u32 = 512;
@@ -22,62 +25,32 @@ const TAKEN_AT_ONCE: u32 = 512;
 pub(crate) struct Counts {
     /// Datagrams that waited and then could not be sent, also because their peer was removed.
     pub(crate) failed_sends: u64,
-    /// Datagrams of peers that were lost because the queue was full, or memory was refused.
+    /// Datagrams of peers that were lost because the queue was full, or memory was refused, and Requests that were not answered.
     pub(crate) lost_arrivals: u64,
     /// Datagrams that came from a port of no peer.
     pub(crate) strangers: u64,
 }
 
-/// A socket that gives what came to the group of a real link, all of it with this hop limit.
-#[derive(Drop)]
-struct GroupSocket {
-    socket: UdpSocket,
-    hop_limit: u8,
-}
-
-/// The sockets of an interface.
+/// The sockets of an interface, and what waits there.
 #[derive(Drop)]
 pub(crate) struct Endpoint {
-    /// What it sends by; what came to it alone, or on a link of loopback all that came.
-    pub(crate) socket: UdpSocket,
-    groups: Vec<GroupSocket>,
+    pub(crate) sockets: LinkSockets,
     pub(crate) send_queue: SendQueue,
-    pub(crate) receive_queue: ReceiveQueue,
+    receive_queue: ReceiveQueue,
+    /// Who has sent Responses there.
+    known: Known,
     /// Whether there may be something to read: the system said so, and no read has found it empty since.
     pub(crate) ready: bool,
 }
 
-/// What a socket of a group gives whose datagrams have another hop limit than 255: which one is not known.
-const FAR: u8 = 0;
-
-/// The sockets at a place, each watched for that interface.
-fn endpoint_at<N: Net>(
-    net: &N,
-    alloc: Global,
-    waiting: &Polled,
-    iface: usize,
-    socket: Socket,
-) -> io::Result<Endpoint> {
-    let mut groups = Vec::new(alloc);
-    let socket = match socket {
-        Socket::Local { port, .. } => waiting.open(net, iface, port)?,
-        Socket::Inherited { alone, group, far } => {
-            for (number, hop_limit) in [(Some(group), MAX_HOP_LIMIT), (far, FAR)] {
-                if let Some(number) = number {
-                    let socket = waiting.take_over(iface, number, true)?;
-                    groups.push(GroupSocket { socket, hop_limit })?;
-                }
-            }
-            waiting.take_over(iface, alone, false)?
-        }
-    };
-    Ok(Endpoint {
-        socket,
-        groups,
-        send_queue: SendQueue::new(alloc),
-        receive_queue: ReceiveQueue::new(alloc),
-        ready: false,
-    })
+/// Whether these bytes are those of a datagram with that command (RFC 2080, section 2.1).
+fn is_command(bytes: &[u8], command: Command) -> bool
+    ensures { result ≡ is_command bytes.now command }
+{
+    match bytes {
+        [first, ..] => *first == command as u8,
+        [] => false,
+    }
 }
 
 /// The sockets at each place, in order.
@@ -96,12 +69,20 @@ pub(crate) fn endpoints_at<N: Net>(
     let mut endpoints = Vec::new(alloc);
     for place in places {
         let socket = place.socket;
-        let endpoint = match endpoint_at(net, alloc, waiting, endpoints.len(), socket) {
-            Ok(endpoint) => endpoint,
+        let sockets = match LinkSockets::open(net, alloc, waiting, endpoints.len(), socket) {
+            Ok(sockets) => sockets,
             Err(error) => {
                 let cause = BindCause::of(&error);
                 return Err(UdpError::Bind { socket, cause });
             }
+        };
+        let known = Known::new(alloc).map_err(|_| UdpError::OutOfMemory)?;
+        let endpoint = Endpoint {
+            sockets,
+            send_queue: SendQueue::new(alloc),
+            receive_queue: ReceiveQueue::new(alloc),
+            known,
+            ready: false,
         };
         endpoints.push(endpoint).map_err(|_| UdpError::OutOfMemory)?;
     }
@@ -109,6 +90,11 @@ pub(crate) fn endpoints_at<N: Net>(
 }
 
 impl Endpoint {
+    /// Whether a datagram waits for the router.
+    pub(crate) fn has_datagram(&self) -> bool {
+        !self.receive_queue.is_empty()
+    }
+
     /// Whether no datagram waits for the router, and the socket need not be read.
     pub(crate) fn is_quiet(&self) -> bool {
         self.receive_queue.is_empty() && !self.ready
@@ -129,21 +115,6 @@ impl Endpoint {
         }
     }
 
-    /// Reads one datagram into a buffer, from the socket of a group or, without its number, from the other one. It came with this hop
-    /// limit, if it came to a group.
-    fn read(
-        &self,
-        group: Option<usize>,
-        buffer: &mut [u8],
-    ) -> (Option<u8>, io::Result<(usize, SocketAddr)>)
-        ensures { IfOk result.1 (λ r. r.0 ≤ length buffer.new) }
-    {
-        match group.and_then(|number| self.groups.get(number)) {
-            Some(group) => (Some(group.hop_limit), group.socket.recv_from(buffer)),
-            None => (None, self.socket.recv_from(buffer)),
-        }
-    }
-
     /// Reads one datagram into the queue, by way of a buffer, from the socket of a group or, without its number, from the other one.
     /// Returns whether to try for another. One that the queue cannot keep is lost, one that nobody can have sent is dropped; both are
     /// counted.
@@ -159,7 +130,7 @@ impl Endpoint {
     ) -> Result<bool, LinkFault>
         ensures { Grows counts.old counts.new }
     {
-        let (hop_limit, read) = self.read(group, buffer);
+        let (hop_limit, read) = self.sockets.read(group, buffer);
         let (len, from) = match read {
             Ok(read) => read,
             Err(error) => return self.leave(&error),
@@ -168,6 +139,9 @@ impl Endpoint {
             counts.strangers = counts.strangers.saturating_add(1);
             return Ok(true);
         };
+        if is_command(&buffer[..len], Command::Response) {
+            self.known.note(sender.addr);
+        }
         let kept = self.receive_queue.keep(sender, &buffer[..len]);
         if !kept {
             self.ready = true;
@@ -215,9 +189,43 @@ impl Endpoint {
         }
         self.ready = false;
         self.take_some(None, peer_table, buffer, counts)?;
-        for number in 0..self.groups.len() {
+        for number in 0..self.sockets.group_count() {
             self.take_some(Some(number), peer_table, buffer, counts)?;
         }
         Ok(())
+    }
+
+    /// Whether a datagram of an address is given to the router: any but a Request that is not answered.
+    fn is_taken(&self, addr: Addr6, bytes: &[u8]) -> bool
+        ensures { result ≡ is_taken self.now.send_queue.waiting.items self.now.known.addrs.items addr bytes.now }
+    {
+        !is_command(bytes, Command::Request)
+            || self.send_queue.is_answered(self.known.has(addr), addr)
+    }
+
+    /// Takes out the first datagram that waits for the router, as one that came to `iface`. A Request that is not answered is lost
+    /// instead, and counted.
+    pub(crate) fn next(
+        &mut self,
+        iface: usize,
+        buffer: &mut [u8],
+        counts: &mut Counts,
+    ) -> Option<Received>
+        ensures gives { IfSome result (λ r. Judges self.old.send_queue.waiting.items self.old.known.addrs.items iface
+            self.old.receive_queue.waiting.items self.new.receive_queue.waiting.items buffer.new r true) }
+        ensures none { IsNone result → GivesNone self.old.send_queue.waiting.items self.old.known.addrs.items iface
+            self.old.receive_queue.waiting.items self.new.receive_queue.waiting.items buffer.new
+            counts.old.lost_arrivals counts.new.lost_arrivals }
+        ensures interface { IfSome result (λ r. r.iface ≡ iface) }
+        ensures within { IfSome result (λ r. r.len ≤ length buffer.new) }
+        ensures counts { Grows counts.old counts.new }
+        ensures waits { self.new.send_queue ≡ self.old.send_queue }
+    {
+        let received = self.receive_queue.next(iface, buffer)?;
+        if self.is_taken(received.source, &buffer[..received.len]) {
+            return Some(received);
+        }
+        counts.lost_arrivals = counts.lost_arrivals.saturating_add(1);
+        None
     }
 }

@@ -4,14 +4,17 @@
 //!
 //! ```text
 //! socket --take_all--> queue of its interface (16,384, 32 MiB) --take_next, interfaces in turn--> one `recv`
+//!                                                                   \--a Request, while answers wait--> lost, and counted
 //! `send` --pace open?--> socket
-//!        \--closed-----> send queue (4,096) --`recv` or `finish`, once the pause is over--> socket
+//!        \--closed-----> send queue (4,096, of them 1,200 answers) --`recv` or `finish`, once the pause is over--> socket
 //! ```
 #![tactic(auto)]
 
 mod clock;
 mod endpoint;
 mod inherited;
+mod known;
+mod link_sockets;
 mod moments;
 mod pace;
 mod peer_refused;

@@ -1,6 +1,6 @@
 //! The pace of sending: some datagrams at once, and then a pause. A socket of loopback holds about 90 datagrams of an update of a whole
 //! table. More are lost, and the sender is not told. So the routers on a link share what each of their sockets holds, as if all of them
-//! sent at once.
+//! sent at once. A port for the group is of somebody who makes the copies, and keeps them.
 
 ghost use Rattle.std.specs.Prelude.{◌≡◌, ◌+◌, ◌-◌, ◌^◌, ◌<◌, ◌≤◌, min};
 ghost use Rattle.ripngd_udp.specs.Common.{rate_among, real_rate, share_among};

@@ -1,7 +1,7 @@
 //! Who is on the link of an interface: on a real link whoever sends, on a link of loopback its peers, and how these change.
 
-ghost use Rattle.std.specs.Prelude.{◌≡◌, ◌≤◌, IfErr, IfOk, OnErr, OnOk, Some, length, map, true, vec_len};
-ghost use Rattle.ripngd_udp.specs.Common.{result_err, first_reason, adding_fault, has_peer_address, is_group_port, links_at, on_link, removing_reasons_at, with_peer, without_peer, is_real, rate_of, real_sender, OnLink};
+ghost use Rattle.std.specs.Prelude.{◌≡◌, ◌≤◌, ℕ, IfErr, IfOk, IfSome, IsNone, None, OnErr, OnOk, Some, false, length, map, true, vec_len};
+ghost use Rattle.ripngd_udp.specs.Common.{result_err, IsLocal, Shares, is_known, sender_from, first_reason, adding_fault, has_peer_address, is_group_port, links_at, on_link, removing_reasons_at, with_peer, without_peer, is_real, rate_of, real_sender, OnLink};
 
 use crate::pace::Rate;
 use crate::peer_refused::PeerRefused;
@@ -33,7 +33,10 @@ impl Model for PeerTable {
 pub(crate) const GROUP: u128 = (0xff02 << 112) | 9;
 
 /// The port of an address of 127.0.0.1, or `None` for another address.
-fn local_port_of(from: SocketAddr) -> Option<u16> {
+fn local_port_of(from: SocketAddr) -> Option<u16>
+    ensures some { IfSome result (λ port. IsLocal port from) }
+    ensures none { IsNone result → (port : ℕ) → ¬ (IsLocal port from) }
+{
     match from.ip() {
         IpAddr::V4(ip) if ip.octets() == [127, 0, 0, 1] => Some(from.port()),
         _ => None,
@@ -81,7 +84,14 @@ impl PeerTable {
         ensures few { result.share ≤ 64 }
     {
         match self.place.socket {
-            Socket::Local { .. } => Rate::among(self.peers.len()),
+            Socket::Local {
+                group_port: None,
+                ..
+            } => Rate::among(self.peers.len()),
+            Socket::Local {
+                group_port: Some(_),
+                ..
+            } => Rate::among(1),
             Socket::Inherited { .. } => Rate::real(),
         }
     }
@@ -94,7 +104,9 @@ impl PeerTable {
     }
 
     /// Whether something can be sent there: on a real link always, else to the group, or to an address that a peer has.
-    pub(crate) fn is_known(&self, to: &Destination) -> bool {
+    pub(crate) fn is_known(&self, to: &Destination) -> bool
+        ensures { result ≡ is_known self.now to.now }
+    {
         match to {
             Destination::Group => true,
             Destination::Peer { addr, .. } => self.is_real() || self.has_peer(*addr),
@@ -102,7 +114,9 @@ impl PeerTable {
     }
 
     /// The one address that gets all that is sent to a destination, if there is one.
-    pub(crate) fn shared(&self, to: &Destination) -> Option<SocketAddr> {
+    pub(crate) fn shared(&self, to: &Destination) -> Option<SocketAddr>
+        ensures { Shares self.now.place.socket to.now result }
+    {
         match (self.place.socket, to) {
             (Socket::Local { group_port, .. }, Destination::Group) => group_port.map(local),
             (Socket::Local { .. }, Destination::Peer { .. }) => None,
@@ -115,17 +129,26 @@ impl PeerTable {
         }
     }
 
+    /// Who sent a datagram that came from a port of loopback: the first peer at that port.
+    fn sender_from(&self, port: u16) -> Option<Sender>
+        ensures { result ≡ sender_from self.now.peers port }
+    {
+        self.peers
+            .iter()
+            .find(|peer| peer.local_port == port)
+            .map(|peer| peer.sender())
+    }
+
     /// Who sent a datagram that came so: on a real link who did, to the group with a hop limit, or to this router where there is none;
-    /// else the first peer at the port that it came from.
+    /// else the peer at the port that it came from.
     pub(crate) fn sender_at(&self, from: SocketAddr, hop_limit: Option<u8>) -> Option<Sender>
-        ensures { is_real self.now.place.socket ≡ true → result ≡ real_sender from hop_limit }
+        ensures real { is_real self.now.place.socket ≡ true → result ≡ real_sender from hop_limit }
+        ensures peer { is_real self.now.place.socket ≡ false → (port : ℕ) → IsLocal port from
+            → result ≡ sender_from self.now.peers port }
+        ensures stranger { is_real self.now.place.socket ≡ false → ((port : ℕ) → ¬ (IsLocal port from)) → result ≡ None }
     {
         match self.place.socket {
-            Socket::Local { .. } => {
-                let port = local_port_of(from)?;
-                let peer = self.peers.iter().find(|peer| peer.local_port == port)?;
-                Some(peer.sender())
-            }
+            Socket::Local { .. } => self.sender_from(local_port_of(from)?),
             Socket::Inherited { .. } => real_sender(from, hop_limit),
         }
     }

@@ -27,7 +27,7 @@ impl<R: Clock> Udp<'_, R> {
                 let peer_table = &self.peer_tables[iface];
                 let failed = endpoint
                     .send_queue
-                    .send_waiting(&endpoint.socket, peer_table, moment);
+                    .send_waiting(&endpoint.sockets, peer_table, moment);
                 self.counts.failed_sends = self.counts.failed_sends.saturating_add(failed);
             }
         }
@@ -118,7 +118,7 @@ impl<R: Clock> Udp<'_, R> {
         ensures { IfSome result (λ i. i < self.now.interfaces) }
     {
         for iface in least..self.endpoints.len() {
-            if !self.endpoints[iface].receive_queue.is_empty() {
+            if self.endpoints[iface].has_datagram() {
                 return Some(iface);
             }
         }
@@ -126,14 +126,14 @@ impl<R: Clock> Udp<'_, R> {
     }
 
     /// The first datagram of the interface whose turn it is: the next one at which a datagram waits, round and round. The one after
-    /// it is served next.
+    /// it is served next. None, if it was a Request that is not answered.
     fn take_next(&mut self, buffer: &mut [u8]) -> Option<Received>
         ensures interface { IfSome result (λ r. r.iface < self.old.interfaces) }
         ensures within { IfSome result (λ r. r.len ≤ length buffer.new) }
-        ensures same { self.new ≡ self.old }
+        ensures goes_on { GoesOn self.old self.new }
     {
         let iface = self.first_waiting(self.next).or(self.first_waiting(0))?;
-        let received = self.endpoints[iface].receive_queue.next(iface, buffer);
+        let received = self.endpoints[iface].next(iface, buffer, &mut self.counts);
         self.next = iface + 1;
         received
     }
@@ -179,7 +179,7 @@ impl<R: Clock> Udp<'_, R> {
         let end = self.since.saturating_add(self.pause);
         let mut now = self.clock.now().ms();
         self.was_called = false;
-        // Within the same millisecond only the queues are searched. They are empty where the last call gave no datagram.
+        // Within the same millisecond only the queues are searched. They are mostly empty where the last call gave no datagram.
         if now == self.since
             && !self.was_silent
             && let Some(received) = self.take_next(buffer)

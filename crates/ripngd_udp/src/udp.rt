@@ -234,7 +234,7 @@ impl<'a, R: Clock> Udp<'a, R> {
     }
 
     /// How many datagrams of peers were lost: 16,384 waited on the interface, or they would have had more than 32 MiB together, or
-    /// there was no memory for one more.
+    /// there was no memory for one more; or they were Requests, and an answer to who asked waited, or too many to others.
     pub fn lost_arrivals(&self) -> u64
         ensures { result ≡ self.now.lost_arrivals }
     {
@@ -284,7 +284,7 @@ impl<R: Clock> Link for Udp<'_, R> {
                 let peer_table = &self.peer_tables[outgoing.iface];
                 endpoint
                     .send_queue
-                    .send(&endpoint.socket, peer_table, outgoing, now)
+                    .send(&endpoint.sockets, peer_table, outgoing, now)
             }
             None => Err(LinkFault),
         };
