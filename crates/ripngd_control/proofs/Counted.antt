@@ -1,5 +1,5 @@
 -- Counts, one telling after another.
-use Rattle.std.proofs.Common.{◌≡◌, ℕ, ◌+◌, List, [], ◌∷◌, sym, arith, subst}
+use Rattle.std.proofs.Common.{◌≡◌, ◌∙◌, ℕ, ◌+◌, List, [], ◌∷◌, refl, sym, arith, subst}
 use Rattle.ripngd_engine.specs.Run.{counted}
 use Rattle.ripngd_engine.specs.Observer.{LinkReport, WasTold}
 use Rattle.ripngd_control.specs.Watching.{Counted, Refused}
@@ -26,6 +26,7 @@ Counted-none c = record {
   sends = counted-none c.sends;
   failed_sends = counted-none c.failed_sends;
   refusals = record { by_number_are = λ number h. counted-none _ };
+  asked = refl;
 }
 
 pub Counted-more : (c d e : Counts) (t : LinkReport) (ts : List LinkReport) → Counted c (t ∷ []) d → Counted d ts e → Counted c (t ∷ ts) e
@@ -34,6 +35,7 @@ Counted-more c d e t ts p q = record {
   sends = counted-more _ _ _ _ _ p.sends q.sends;
   failed_sends = counted-more _ _ _ _ _ p.failed_sends q.failed_sends;
   refusals = record { by_number_are = λ number h. counted-more _ _ _ _ _ (p.refusals.by_number_are number h) (q.refusals.by_number_are number h) };
+  asked = q.asked ∙ p.asked;
 }
 
 pub Counted-all : (c d : Counts) (ts : List LinkReport) → WasTold (λ v t w. Counted v (t ∷ []) w) c ts d → Counted c ts d

@@ -13,6 +13,11 @@ use Rattle.ripngd_control.specs.declared.neighbors.Neighbors.{Neighbors}
 use Rattle.ripngd_control.specs.declared.reply.Reply.{Reply}
 use Rattle.ripngd_control.specs.declared.reply.Reply.TheVariants as replies
 
+-- after a link that was cut the last line says so
+pub cut : (command : Option Command) (bytes : List ℕ) (lines taken : List (List ℕ)) → TakesIn command bytes lines taken
+    → (iface : ℕ) × (command ≡ Some (commands.LinkDown iface)) → (iface : ℕ) × (taken ≡ lines ++ control_text (commands.LinkDown iface) ∷ [])
+cut command bytes lines taken took (iface, is) = (iface, (subst (λ c. TakesIn c bytes lines taken) is took).1)
+
 module _ (counts : Counts) (heard : Neighbors) (lost : Losses) (bytes : List ℕ) (lines taken : List (List ℕ)) (a b : Seen) (old new : Option (List ℕ)) (rest : Rest) where
   obeyed : (c : Command) (reply : Reply) → taken ≡ lines ++ control_text c ∷ [] → Obeys c a reply b → Heeds lines a taken b
   obeyed c reply took does = inr (control_text c, took, (c, reply, refl, does))
@@ -25,6 +30,7 @@ module _ (counts : Counts) (heard : Neighbors) (lost : Losses) (bytes : List ℕ
   heeds (Some (commands.Lookup d)) took h = obeyed (commands.Lookup d) replies.Done took.1 h.0
   heeds (Some commands.Counts) took h = obeyed commands.Counts replies.Done took.1 h.0
   heeds (Some commands.Status) took h = obeyed commands.Status replies.Done took.1 h.0
+  heeds (Some commands.StatusJson) took h = obeyed commands.StatusJson replies.Done took.1 h.0
   heeds (Some commands.Neighbors) took h = obeyed commands.Neighbors replies.Done took.1 h.0
   heeds (Some commands.Stop) took h = obeyed commands.Stop h.0 took.1 h.1
   heeds (Some commands.StopNow) took h = obeyed commands.StopNow replies.Done took.1 h.0

@@ -1,5 +1,7 @@
+mod Jsons
 mod Counted
 mod Places
+mod Silent
 mod Following
 mod Answered
 mod Heeding

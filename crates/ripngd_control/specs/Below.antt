@@ -4,6 +4,11 @@ pub use Rattle.std.specs.List.{list_any, enumerate_from, count_by, position_or_l
 pub use Rattle.fib.specs.Entries.{Entry, IsLookedUp, IsPast, listed}
 pub use Rattle.fib.specs.Forwarding.{Forwarding}
 pub use Rattle.fib.specs.declared.change.Hop.{Hop}
+pub use Rattle.json.specs.Json.{Json, null, boolean, number, string, array, object, Items, no_items, item, Members, no_members, member}
+pub use Rattle.json.specs.Print.{IsPrintable, print}
+pub use Rattle.json.specs.Reads.{token_of}
+pub use Rattle.json.specs.Token.{Token, key}
+pub use Rattle.json.specs.Tree.{json_tokens, members_tokens}
 pub use Rattle.prefix6.specs.Prefix.{Prefix6}
 pub use Rattle.prefix6.specs.Written.{written_addr, written_prefix}
 pub use Rattle.ripng_wire.specs.Wire.{is_response}
@@ -22,9 +27,9 @@ pub use Rattle.route_table.specs.declared.route.Clock.{Clock}
 pub use Rattle.route_table.specs.declared.route.Clock.TheVariants.{Fixed, Live, Dying}
 pub use Rattle.route_table.specs.declared.route.Origin.{Origin}
 pub use Rattle.route_table.specs.declared.route.Origin.TheVariants.{Learned}
-pub use Rattle.router_core.specs.Faults.{fault_number, fault_text}
+pub use Rattle.router_core.specs.Faults.{fault_name, fault_number, fault_text}
 pub use Rattle.router_core.specs.Machine.{State}
-pub use Rattle.router_core.specs.Offers.{note_number, note_text}
+pub use Rattle.router_core.specs.Offers.{note_name, note_number, note_text}
 pub use Rattle.router_core.specs.Reconfiguring.{NamesInterface, reconfigure_text}
 pub use Rattle.router_core.specs.declared.answer.Note.{Note}
 pub use Rattle.router_core.specs.declared.answer.NoteKind.TheVariants.{BadLength, BadPrefix, BadMetric, TableFull, NoMemory, NotAccepted, LimitReached}
@@ -41,6 +46,7 @@ pub use Rattle.ripngd_control.specs.declared.command.PeerChange.{PeerChange}
 pub use Rattle.ripngd_control.specs.declared.command.PeerChange.TheVariants.{Add, Remove}
 pub use Rattle.ripngd_control.specs.declared.counts.Counts.{Counts}
 pub use Rattle.ripngd_control.specs.declared.counts.Losses.{Losses}
+pub use Rattle.ripngd_control.specs.declared.json_text.JsonText.{JsonText}
 pub use Rattle.ripngd_control.specs.declared.monitor.Monitor.{Monitor}
 pub use Rattle.ripngd_control.specs.declared.neighbors.Neighbor.{Neighbor}
 pub use Rattle.ripngd_control.specs.declared.neighbors.Neighbors.{Neighbors}

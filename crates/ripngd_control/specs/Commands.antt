@@ -10,6 +10,7 @@ control_text commands.Table = codes "table"
 control_text (commands.Lookup destination) = codes "lookup " ++ written_addr destination.0
 control_text commands.Counts = codes "counts"
 control_text commands.Status = codes "status"
+control_text commands.StatusJson = codes "status json"
 control_text commands.Neighbors = codes "neighbors"
 control_text commands.Stop = codes "stop"
 control_text commands.StopNow = codes "stop now"

@@ -1,5 +1,6 @@
 pub mod Commands
 pub mod Printed
+pub mod Json
 pub mod Watching
 pub mod Answers
 pub mod Clients

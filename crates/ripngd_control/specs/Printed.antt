@@ -136,8 +136,16 @@ reply_text replies.Ended = codes "refused 53 Ended"
 abbrev pub reply_line : Reply → List ℕ
 reply_line reply = reply_text reply ++ 10 ∷ []
 
--- the answer to `status`: the lines of the interfaces, `now MS routes N`, the counts, what was lost, the neighbors, and `ok`
+-- `asked N`, and then `ok`
+abbrev pub asked_and_done : ℕ → List ℕ
+asked_and_done asked = codes "asked " ++ (decimal asked ++ (10 ∷ reply_line replies.Done))
+
+-- `now MS routes N`, the counts, what was lost, and the neighbors
+abbrev pub sums_text : ℕ → ℕ → Counts → Losses → Neighbors → List ℕ
+sums_text last entries counts lost heard = codes "now " ++ (decimal last ++ (codes " routes " ++ (decimal entries ++ (10 ∷ (counts_text counts
+    ++ (10 ∷ (losses_text lost ++ (10 ∷ neighbors_text heard))))))))
+
+-- the answer to `status`: the lines of the interfaces, these sums, `asked N` with the Requests that were sent since routes were lost, and `ok`
 abbrev pub status_answer : List Interface → ℕ → ℕ → Counts → Losses → Neighbors → List ℕ
-status_answer interfaces last entries counts lost heard = interface_lines (enumerate_from 0 interfaces) ++ (codes "now " ++ (decimal last
-    ++ (codes " routes " ++ (decimal entries ++ (10 ∷ (counts_text counts ++ (10 ∷ (losses_text lost ++ (10 ∷ (neighbors_text heard
-    ++ reply_line replies.Done))))))))))
+status_answer interfaces last entries counts lost heard =
+    (interface_lines (enumerate_from 0 interfaces) ++ sums_text last entries counts lost heard) ++ asked_and_done counts.asked

@@ -1,5 +1,6 @@
 -- What the monitor of a run makes of reports: what is counted, in all and by sender, and which lines are written.
-use Rattle.std.specs.Prelude.{ℕ, ◌≡◌, ◌<◌, ◌+◌, ◌-◌, ◌/◌, ◌==◌, ◌&&◌, ◌⊎◌, Bool, true, false, List, [], ◌∷◌, ◌++◌, Option, None, Some, if◌then◌else◌, length, nat_lt, replicate, slice_get, slice_index_or, slice_set, vec_capacity, count_by}
+use Rattle.std.specs.Prelude.{ℕ, ◌≡◌, ◌<◌, ◌+◌, ◌-◌, ◌/◌, ◌==◌, ◌&&◌, ◌||◌, ◌⊎◌, Bool, true, false, max, is_none, MatchBool, List, [], ◌∷◌, ◌++◌, Option, None, Some, if◌then◌else◌, length, nat_le, nat_lt, replicate, slice_get, slice_index_or, slice_set, vec_capacity, count_by}
+use Rattle.std.specs.List.{remove}
 use Rattle.ripngd_control.specs.Below.{Appends, position_or_len, is_response, fault_number, note_number, Note, Fault, counted, LinkReport, Processed, Sent, Arrived, Counts, Monitor, Neighbor, Neighbors, Refusals, Tally}
 use Rattle.ripngd_control.specs.Printed.{lines_of}
 
@@ -35,18 +36,19 @@ no_refusals = record { by_number = replicate 27 0 }
 
 -- nothing was counted
 abbrev pub no_counts : Counts
-no_counts = record { arrivals = 0; sends = 0; failed_sends = 0; refusals = no_refusals }
+no_counts = record { arrivals = 0; sends = 0; failed_sends = 0; refusals = no_refusals; asked = 0 }
 
 -- each count is that of before with how many there are of its number, up to the greatest u64
 pub record Refused (more : ℕ → ℕ) (r s : Refusals) : Type 0 where
   pub by_number_are : (number : ℕ) → number < 27 → slice_index_or s.by_number number 0 ≡ counted (slice_index_or r.by_number number 0) (more number)
 
--- each count is that of before with how many there are in these, up to the greatest u64
+-- each count is that of before with how many there are in these, up to the greatest u64. Questions are counted apart
 pub record Counted (c : Counts) (ts : List LinkReport) (d : Counts) : Type 0 where
   pub arrivals : d.arrivals ≡ counted c.arrivals (total (heard_in (λ fault notes. 1)) ts)
   pub sends : d.sends ≡ counted c.sends (total (sent_in (λ went. 1)) ts)
   pub failed_sends : d.failed_sends ≡ counted c.failed_sends (total (sent_in (λ went. if went then 0 else 1)) ts)
   pub refusals : Refused (λ number. total (heard_in (λ fault notes. is_fault number fault + notes_of number notes)) ts) c.refusals d.refusals
+  pub asked : d.asked ≡ c.asked
 
 -- ---- of one sender
 -- whether an arrival is a Response without a fault
@@ -71,6 +73,20 @@ pub record Tallied (c : Tally) (a : Arrived) (bytes : List ℕ) (fault : Option 
   pub last : d.last ≡ (if is_sound_response bytes fault then Some a.moment else c.last)
   pub refusals : Refused (λ number. is_fault number fault + notes_of number notes) c.refusals d.refusals
 
+-- the later of two moments, if there are any
+abbrev pub later : Option ℕ → Option ℕ → Option ℕ
+later None b = b
+later (Some a) None = Some a
+later (Some a) (Some b) = Some (max a b)
+
+-- the counts of one sender were added to those of others, up to the greatest u64 each
+pub record Added (c more d : Tally) : Type 0 where
+  pub arrivals : d.arrivals ≡ counted c.arrivals more.arrivals
+  pub responses : d.responses ≡ counted c.responses more.responses
+  pub entries : d.entries ≡ counted c.entries more.entries
+  pub last : d.last ≡ later c.last more.last
+  pub refusals : Refused (λ number. slice_index_or more.refusals.by_number number 0) c.refusals d.refusals
+
 -- ---- of all senders
 -- no sender yet, and there is room for 64 rows, or for none
 pub record KnowsNobody (n : Neighbors) : Type 0 where
@@ -91,6 +107,33 @@ abbrev pub with_row : Arrived → ℕ → List Neighbor → List Neighbor
 with_row a room rows = if (place_of a rows == length rows) && nat_lt (length rows) room
     then rows ++ record { iface = a.iface; source = a.source; tally = no_tally } ∷ [] else rows
 
+-- whether a moment comes before another; none comes before each
+abbrev pub is_before : Option ℕ → Option ℕ → Bool
+is_before a None = false
+is_before None (Some b) = true
+is_before (Some a) (Some b) = nat_lt a b
+
+-- a row of the sender that has been silent longest: no other had its last Response before it
+abbrev pub IsSilentLongest : List Neighbor → Neighbor → Type 0
+IsSilentLongest rows row = (i : ℕ) (other : Neighbor) → slice_get rows i ≡ Some other → is_before other.tally.last row.tally.last ≡ false
+
+-- whether a row gives way to a datagram of a new sender: to a Response without a fault any row, to any other that of a sender of none
+abbrev pub gives_way : Bool → Neighbor → Bool
+gives_way is_sound row = is_sound || is_none row.tally.last
+
+-- the row of the sender that has been silent longest is gone, and its counts are among those of all others; or it does not give way,
+-- or there is none
+abbrev pub MakesRoom : Bool → Neighbors → Neighbors → Type 0
+MakesRoom is_sound v w =
+    ((w ≡ v) × ((v.rows.items ≡ []) ⊎ ((row : Neighbor) × IsSilentLongest v.rows.items row × (gives_way is_sound row ≡ false))))
+    ⊎ ((place : ℕ) × (row : Neighbor) × (slice_get v.rows.items place ≡ Some row) × IsSilentLongest v.rows.items row
+    × (gives_way is_sound row ≡ true) × (w.rows.items ≡ remove v.rows.items place) × (vec_capacity w.rows ≡ vec_capacity v.rows)
+    × (w.replaces ≡ v.replaces) × Added v.others row.tally w.others)
+
+-- an arrival's sender has no row, there is no room for one, and on such links a row gives way
+abbrev pub lacks_room : Arrived → Neighbors → Bool
+lacks_room a v = v.replaces && (place_of a v.rows.items == length v.rows.items) && nat_le (vec_capacity v.rows) (length v.rows.items)
+
 -- an arrival was counted in the row at an index, or with all others if there is no such row
 abbrev pub CountsAt : (Tally → Tally → Type 0) → Option Neighbor → ℕ → List Neighbor → Neighbors → Neighbors → Type 0
 CountsAt Counts (Some row) place rows v w = (tally : Tally) × Counts row.tally tally
@@ -102,9 +145,11 @@ abbrev pub CountsOf : (Tally → Tally → Type 0) → Arrived → List Neighbor
 CountsOf Counts a rows v w =
     (vec_capacity w.rows ≡ vec_capacity v.rows) × CountsAt Counts (slice_get rows (place_of a rows)) (place_of a rows) rows v w
 
--- what a report makes of the rows: what is sent is of no sender
+-- what a report makes of the rows: room for its sender's, if need be, and then it is counted. What is sent is of no sender
 abbrev pub CountsReport : Neighbors → LinkReport → Neighbors → Type 0
-CountsReport v (Processed a bytes fault notes) w = CountsOf (λ c d. Tallied c a bytes fault notes d) a (with_row a (vec_capacity v.rows) v.rows.items) v w
+CountsReport v (Processed a bytes fault notes) w =
+    (m : Neighbors) × MatchBool (lacks_room a v) (MakesRoom (is_sound_response bytes fault) v m) (m ≡ v)
+    × CountsOf (λ c d. Tallied c a bytes fault notes d) a (with_row a (vec_capacity m.rows) m.rows.items) m w × (w.replaces ≡ v.replaces)
 CountsReport v (Sent s went) w = w ≡ v
 
 -- ---- what a report makes of a monitor: it is counted, and its lines are written, unless the monitor is muted

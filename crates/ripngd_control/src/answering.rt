@@ -1,7 +1,7 @@
 //! What a running router does for a command, and its answer: at once, or in pieces.
 
 ghost use Rattle.std.specs.Prelude.{◌≡◌, ◌≢◌, ◌↔◌, ◌⊎◌, ◌++◌, ◌∷◌, IsOk, IsTrue, OnOk, Option, Some, false};
-ghost use Rattle.ripngd_control.specs.Common.{Appends, enumerate_from, NamesInterface, seen, Entry, IsLookedUp, AnswersCommand, Continues, GainsLines, Obeys, step_reply, interface_lines, lookup_text, reply_line, status_answer, PeerChange};
+ghost use Rattle.ripngd_control.specs.Common.{Appends, asked_and_done, enumerate_from, NamesInterface, seen, Entry, IsLookedUp, AnswersCommand, Continues, GainsLines, Obeys, step_reply, interface_lines, lookup_text, reply_line, status_answer, sums_text, PeerChange};
 ghost use Rattle.std.specs.FinMap as map_of;
 
 use crate::command::{Command, Destination};
@@ -9,6 +9,7 @@ use crate::counts::Losses;
 use crate::monitor::Monitor;
 use crate::pieces::{write_routes, write_table};
 use crate::reply::{Peering, Reply};
+use crate::status_json::write_status_json;
 use fib::Fib;
 use prefix6::Prefix;
 use rand_core::Rng;
@@ -76,8 +77,36 @@ fn write_lookup<W: Write>(fib: &Fib, destination: Destination, out: &mut W) -> R
     }
 }
 
-/// Writes `interface I address ADDR cost C mtu M` for each interface, `now MS routes N` with the moment of the last step and the number
-/// of entries of the forwarding table, the counts, what was lost, the neighbors, and `ok`.
+/// Writes `asked N`, and `ok`.
+fn write_asked<W: Write>(asked: u64, out: &mut W) -> io::Result<()>
+    ensures { OnOk result (Appends (W.contents out.old) (W.contents out.new) (asked_and_done asked)) }
+{
+    writeln!(out, "asked {asked}\nok")
+}
+
+/// Writes `now MS routes N` with the moment of the last step and the number of entries of the forwarding table, the counts, what was lost,
+/// and the neighbors.
+fn write_sums<S: RouteStore, E, W: Write>(
+    router: &Router<S>,
+    fib: &Fib,
+    monitor: &Monitor<E>,
+    lost: Losses,
+    out: &mut W,
+) -> io::Result<()>
+    ensures { OnOk result (Appends (W.contents out.old) (W.contents out.new)
+        (sums_text router.now.last (map_of.len fib.now) monitor.now.counts lost monitor.now.neighbors)) }
+{
+    let now = router.last().ms();
+    let routes = fib.len();
+    let counts = monitor.counts();
+    let neighbors = monitor.neighbors();
+    write!(
+        out,
+        "now {now} routes {routes}\n{counts}\n{lost}\n{neighbors}"
+    )
+}
+
+/// Writes `interface I address ADDR cost C mtu M` for each interface, the sums, `asked N`, and `ok`.
 fn write_status<S: RouteStore, E, W: Write>(
     router: &Router<S>,
     fib: &Fib,
@@ -101,14 +130,8 @@ fn write_status<S: RouteStore, E, W: Write>(
             "interface {number} address {addr} cost {cost} mtu {mtu}"
         )?;
     }
-    let now = router.last().ms();
-    let routes = fib.len();
-    let counts = monitor.counts();
-    let neighbors = monitor.neighbors();
-    writeln!(
-        out,
-        "now {now} routes {routes}\n{counts}\n{lost}\n{neighbors}ok"
-    )
+    write_sums(router, fib, monitor, lost, out)?;
+    write_asked(monitor.asked(), out)
 }
 
 /// Whether the interface of a change of cost exists.
@@ -205,7 +228,8 @@ pub(crate) fn respond<
         }
         Some(Command::Counts) => {
             let counts = monitor.counts();
-            let written = writeln!(out, "{counts}\n{lost}\nok");
+            let asked = counts.asked;
+            let written = writeln!(out, "{counts}\n{lost}\nasked {asked}\nok");
             (all_of(written), RunState::Running)
         }
         Some(Command::Neighbors) => {
@@ -214,6 +238,10 @@ pub(crate) fn respond<
         }
         Some(Command::Status) => {
             let written = write_status(engine.router(), engine.fib(), monitor, lost, out);
+            (all_of(written), RunState::Running)
+        }
+        Some(Command::StatusJson) => {
+            let written = write_status_json(engine.router(), engine.fib(), monitor, lost, out);
             (all_of(written), RunState::Running)
         }
         Some(Command::StopNow) => (write_reply(Reply::Done, out), RunState::Stopped),

@@ -1,7 +1,7 @@
 //! The clients of a running router. One at a time is served, for a bounded time between two turns.
 
-ghost use Rattle.std.specs.Prelude.{◌≡◌, ◌≢◌, ◌++◌, ◌∷◌, ◌⊎◌, [], IfOk, IfSome, IsNone, None, codes, false};
-ghost use Rattle.ripngd_control.specs.Common.{seen, Heeds, TakesIn, ClientsState};
+ghost use Rattle.std.specs.Prelude.{ℕ, ◌≡◌, ◌≢◌, ◌++◌, ◌∷◌, ◌⊎◌, [], IfOk, IfSome, IsNone, None, Some, codes, false, true};
+ghost use Rattle.ripngd_control.specs.Common.{control_text, seen, Heeds, TakesIn, ClientsState};
 
 use crate::answering::{RunState, respond};
 use crate::command::{Command, read_command};
@@ -33,6 +33,13 @@ impl Model for Clients {
     ghost Value = { ClientsState };
 
     ghost view = { λ c. record { lines = c.transcript.past.lines } };
+}
+
+/// Whether a command says that a link is cut.
+fn is_cut(command: &Option<Command>) -> bool
+    ensures { result ≡ true → (iface : ℕ) × (command.now ≡ Some (Command.LinkDown iface)) }
+{
+    matches!(*command, Some(Command::LinkDown(_)))
 }
 
 impl Clients {
@@ -106,8 +113,8 @@ impl Clients {
     }
 
     /// Serves the clients of a router between two of its turns: accepts one if none is served, reads once from it, does its command,
-    /// and sends it up to 16 pieces of its answer. That a client is ever accepted is tested and not proved: nothing is known of a
-    /// socket.
+    /// and sends it up to 16 pieces of its answer. Returns whether the router goes on, and whether the command was that a link is cut.
+    /// That a client is ever accepted is tested and not proved: nothing is known of a socket.
     pub fn serve<
         RT: Clock + AllocGlobal,
         S: RouteStore,
@@ -125,20 +132,22 @@ impl Clients {
         lost: Losses,
         peering: &mut P,
         log: &mut W,
-    ) -> RunState
+    ) -> (RunState, bool)
         requires { engine.old.ended ≡ false }
         ensures heeds { Heeds self.old.lines (seen R.stream W.contents engine.old log.old)
             self.new.lines (seen R.stream W.contents engine.new log.new) }
-        ensures goes_on { result ≢ RunState.Ended → engine.new.ended ≡ false }
-        ensures stops { result ≡ RunState.Stopped → (self.new.lines ≡ self.old.lines ++ codes "stop" ∷ [])
+        ensures goes_on { result.0 ≢ RunState.Ended → engine.new.ended ≡ false }
+        ensures stops { result.0 ≡ RunState.Stopped → (self.new.lines ≡ self.old.lines ++ codes "stop" ∷ [])
             ⊎ (self.new.lines ≡ self.old.lines ++ codes "stop now" ∷ []) }
+        ensures cuts { result.1 ≡ true → (iface : ℕ) × (self.new.lines ≡ self.old.lines ++ control_text (Command.LinkDown iface) ∷ []) }
     {
         let Some(mut connection) = self.next_connection(rt) else {
-            return RunState::Running;
+            return (RunState::Running, false);
         };
-        let state = match self.listen(rt.alloc(), &mut connection) {
-            None => RunState::Running,
+        let served = match self.listen(rt.alloc(), &mut connection) {
+            None => (RunState::Running, false),
             Some(command) => {
+                let is_cut = is_cut(&command);
                 let (rest, state) = respond(
                     engine,
                     command,
@@ -149,12 +158,12 @@ impl Clients {
                     &mut connection.text,
                 );
                 connection.rest = Some(rest);
-                state
+                (state, is_cut)
             }
         };
         if connection.send(rt, engine.router(), engine.fib()) {
             self.connection = Some(connection);
         }
-        state
+        served
     }
 }

@@ -42,6 +42,8 @@ pub enum Command {
     Counts,
     /// `status`: its interfaces, its clock, the size of its forwarding table, and all of `counts` and `neighbors`.
     Status,
+    /// `status json`: the same as JSON.
+    StatusJson,
     /// `neighbors`: what arrived from each sender.
     Neighbors,
     /// `stop`: the router tells its neighbors that its routes end, and ends.
@@ -69,6 +71,7 @@ impl Display for Command {
             Command::Lookup(Destination(addr)) => write!(f, "lookup {addr}"),
             Command::Counts => write!(f, "counts"),
             Command::Status => write!(f, "status"),
+            Command::StatusJson => write!(f, "status json"),
             Command::Neighbors => write!(f, "neighbors"),
             Command::Stop => write!(f, "stop"),
             Command::StopNow => write!(f, "stop now"),
@@ -110,6 +113,7 @@ pub fn command_in(text: &str) -> Option<Command>
         }
         ("counts", None, None, None) => Some(Command::Counts),
         ("status", None, None, None) => Some(Command::Status),
+        ("status", Some("json"), None, None) => Some(Command::StatusJson),
         ("neighbors", None, None, None) => Some(Command::Neighbors),
         ("stop", None, None, None) => Some(Command::Stop),
         ("stop", Some("now"), None, None) => Some(Command::StopNow),

@@ -1,7 +1,7 @@
 //! The counts of a router's datagrams, and of what was lost.
 
 ghost use Rattle.std.specs.Prelude.{◌≡◌, ◌∷◌, [], ℕ, List, Some};
-ghost use Rattle.ripngd_control.specs.Common.{Outgoing, Processed, LinkReport, Sent, WasTold, Arrived, counts_text, losses_text, Counted, no_counts, Counts};
+ghost use Rattle.ripngd_control.specs.Common.{counted, Outgoing, Processed, LinkReport, Sent, WasTold, Arrived, counts_text, losses_text, Counted, no_counts, Counts};
 
 use crate::refusals::Refusals;
 use ripngd_engine::Report;
@@ -19,6 +19,8 @@ pub struct Counts {
     pub failed_sends: u64,
     /// What was refused of the arrivals.
     pub refusals: Refusals,
+    /// Requests for whole tables that were sent since a route was lost.
+    pub asked: u64,
 }
 
 impl Counts {
@@ -31,7 +33,15 @@ impl Counts {
             sends: 0,
             failed_sends: 0,
             refusals: Refusals::new(),
+            asked: 0,
         }
+    }
+
+    /// Counts a Request that was sent since a route was lost.
+    pub(crate) fn count_question(&mut self)
+        ensures { self.new ≡ record self.old { asked = counted self.old.asked 1 } }
+    {
+        self.asked = self.asked.saturating_add(1);
     }
 
     /// Counts an arrival, with its fault or its notes.

@@ -3,7 +3,7 @@
 //! turns, without ever holding the router up.
 //!
 //! `specs/Watching` says what is counted, `specs/Commands` what a command is, `specs/Answers` what is done and answered for one,
-//! `specs/Printed` how all of that is printed, and `specs/Clients` what clients can make of the router.
+//! `specs/Printed` and `specs/Json` how all of that is printed, and `specs/Clients` what clients can make of the router.
 #![tactic(auto)]
 
 mod answering;
@@ -12,11 +12,13 @@ mod command;
 mod connection;
 mod control_socket;
 mod counts;
+mod json_text;
 mod monitor;
 mod neighbors;
 mod pieces;
 mod refusals;
 mod reply;
+mod status_json;
 
 pub use answering::RunState;
 pub use clients::Clients;

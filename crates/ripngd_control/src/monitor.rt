@@ -1,7 +1,7 @@
 //! The observer of a run: it counts datagrams, and writes a line for each refused datagram and each skipped entry.
 
 ghost use Rattle.std.specs.Prelude.{◌≡◌, ◌++◌, OnOk, Some};
-ghost use Rattle.ripngd_control.specs.Common.{Appends, arrival_text, note_lines, refusal_lines, KnowsNobody, Monitors, no_counts};
+ghost use Rattle.ripngd_control.specs.Common.{counted, Appends, arrival_text, note_lines, refusal_lines, KnowsNobody, Monitors, no_counts};
 
 use crate::counts::Counts;
 use crate::neighbors::Neighbors;
@@ -62,15 +62,17 @@ pub struct Monitor<W> {
 }
 
 impl<W> Monitor<W> {
-    /// A monitor with all counts at 0. If `is_muted`, it never writes a line to `out`.
-    pub fn new(alloc: Global, out: W, is_muted: bool) -> Monitor<W>
+    /// A monitor with all counts at 0. If `is_muted`, it never writes a line to `out`. `replaces` says whether the row of a sender that
+    /// has been silent gives way to a new one, as it is on real links, where there is no room for another.
+    pub fn new(alloc: Global, out: W, is_muted: bool, replaces: bool) -> Monitor<W>
         ensures counts { result.counts ≡ no_counts }
         ensures neighbors { KnowsNobody result.neighbors }
+        ensures replaces { result.neighbors.replaces ≡ replaces }
         ensures lines { (result.out ≡ out) × (result.is_muted ≡ is_muted) }
     {
         Monitor {
             counts: Counts::new(),
-            neighbors: Neighbors::new(alloc),
+            neighbors: Neighbors::new(alloc, replaces),
             out,
             is_muted,
         }
@@ -81,6 +83,13 @@ impl<W> Monitor<W> {
         ensures { result ≡ self.now.counts }
     {
         self.counts
+    }
+
+    /// How many Requests for whole tables were sent since a route was lost.
+    pub fn asked(&self) -> u64
+        ensures { result ≡ self.now.counts.asked }
+    {
+        self.counts.asked
     }
 
     /// The counts of each sender.
@@ -99,6 +108,13 @@ impl<W: Write> Monitor<W> {
         ensures muted { self.new.is_muted ≡ self.old.is_muted }
     {
         let _ = writeln!(self.out, "ripngd: {line}");
+    }
+
+    /// Counts a Request that was sent since a route was lost.
+    pub fn count_question(&mut self)
+        ensures { self.new ≡ record self.old { counts = record self.old.counts { asked = counted self.old.counts.asked 1 } } }
+    {
+        self.counts.count_question();
     }
 
     /// Writes the counts of all datagrams, also if it is muted. A write that fails changes nothing.

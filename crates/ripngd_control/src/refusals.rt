@@ -1,7 +1,7 @@
 //! What a router refuses, and how often: datagrams for a fault, and entries of Responses for a note.
 
-ghost use Rattle.std.specs.Prelude.{◌≡◌, ◌+◌, ◌<◌, ◌==◌, Some, if◌then◌else◌};
-ghost use Rattle.ripngd_control.specs.Common.{refusal_number, refusal_text, refusals_text, Refused, is_fault, no_refusals, notes_of};
+ghost use Rattle.std.specs.Prelude.{◌≡◌, ◌+◌, ◌<◌, ◌==◌, Some, if◌then◌else◌, slice_index_or};
+ghost use Rattle.ripngd_control.specs.Common.{refusal_name, refusal_number, refusal_text, refusals_text, Refused, is_fault, no_refusals, notes_of};
 
 use ripng_wire::WireError;
 use router_core::{Fault, Note, NoteKind};
@@ -15,7 +15,7 @@ pub(crate) enum Refusal {
 }
 
 /// All of them, in the order of their numbers.
-const REFUSALS: [Refusal; 19] = [
+pub(crate) const REFUSALS: [Refusal; 19] = [
     Refusal::Arrival(Fault::Wire(WireError::Short)),
     Refusal::Arrival(Fault::Wire(WireError::TooLong)),
     Refusal::Arrival(Fault::Wire(WireError::Ragged)),
@@ -39,13 +39,23 @@ const REFUSALS: [Refusal; 19] = [
 
 impl Refusal {
     /// The number of the fault, 1 to 12, or of the note, 20 to 26.
-    fn number(self) -> usize
+    pub(crate) fn number(self) -> usize
         ensures number { result ≡ refusal_number self }
         ensures within { result < 27 }
     {
         match self {
             Refusal::Arrival(fault) => fault.number() as usize,
             Refusal::Entry(kind) => kind.number() as usize,
+        }
+    }
+
+    /// The name of the rule, one word.
+    pub(crate) fn name(self) -> &'static str
+        ensures { result.now ≡ refusal_name self }
+    {
+        match self {
+            Refusal::Arrival(fault) => fault.name(),
+            Refusal::Entry(kind) => kind.name(),
         }
     }
 }
@@ -94,6 +104,15 @@ impl Refusals {
         }
         if let Some(fault) = fault {
             self.raise(Refusal::Arrival(fault));
+        }
+    }
+
+    /// Adds the counts of others.
+    pub(crate) fn add(&mut self, more: &Refusals)
+        ensures { Refused (λ number. slice_index_or more.now.by_number number 0) self.old self.new }
+    {
+        for number in 0..27 {
+            self.by_number[number] = self.by_number[number].saturating_add(more.by_number[number]);
         }
     }
 }

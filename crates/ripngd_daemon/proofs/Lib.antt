@@ -5,3 +5,4 @@ mod Readings
 mod OneReading
 mod OneRun
 mod Passing
+pub mod Courses

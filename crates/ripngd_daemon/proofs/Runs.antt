@@ -9,54 +9,20 @@ use Rattle.ripngd_command_line.specs.declared.asked.Order.{Order}
 use Rattle.ripngd_config.specs.Configuration.{IsConfigured}
 use Rattle.ripngd_config.specs.declared.configuration.Config.{Config}
 use Rattle.ripngd_udp.specs.Peers.{OnLink}
-use Rattle.ripngd_control.specs.Clients.{ClientsState, Heeds}
+use Rattle.ripngd_control.specs.Clients.{ClientsState}
 use Rattle.ripngd_engine.specs.Link.{Call, RecvFailed}
 use Rattle.ripngd_engine.specs.Run.{Trace, Turns, all_joined}
 use Rattle.ripngd_engine.specs.Seen.{Ran, RanUntilDeaf, Seen, Started, TurnsAnswer, untouched}
 use Rattle.ripngd_engine.specs.Telling.{Gains}
 use Rattle.ripngd_engine.specs.declared.report.EngineFault.TheVariants as engine
-use Rattle.ripngd_daemon.specs.Run.{FailsBound, FailsIn, HasDone, HasFailed, IsCutOff, IsOver, links_of, Lasts, ShowsRun, Stops, Begun, Turned, Told, TurnsAndHeeds, calls_at, lines_of, words_of}
+use Rattle.ripngd_daemon.specs.Run.{FailsBound, FailsIn, HasDone, HasFailed, IsCutOff, IsOver, links_of, Lasts, ShowsRun, Stops, calls_at, lines_of, words_of}
 use Rattle.ripngd_daemon.specs.Losses.{AreLossesOf, has_failed}
 use Rattle.ripngd_daemon.specs.Tabled.{table_text}
 use Rattle.ripngd_daemon.specs.Written.{begins_with}
 use Rattle.ripngd_daemon.specs.declared.failure.Failure.{Failure}
 use Rattle.ripngd_daemon.specs.declared.failure.Failure.TheVariants as failures
 use Rattle.ripngd_daemon.specs.declared.history.History.{History}
-
--- a run of no turn
-pub has_done_nothing : (seconds : Option ℕ) (lines : List (List ℕ)) (a : Seen) → lines ≡ [] → HasDone seconds 0 lines a a
-has_done_nothing seconds lines a none = record { steps = Begun; turns = refl; told = sym none; are_done = refl }
-
--- what clients told behind it
-heeds_more : (seconds : Option ℕ) (count : ℕ) (before after : List (List ℕ)) (a m b : Seen) → HasDone seconds count before a m
-    → m.machine.ended ≡ false → Heeds before m after b → HasDone seconds count after a b
-heeds_more seconds count before after a m b has going (inl same) =
-    let P : Seen → Type 0 = λ x. HasDone seconds count before a x in
-    let Q : List (List ℕ) → Type 0 = λ lines. HasDone seconds count lines a b in
-    subst Q (sym same.0) (subst P (sym same.1) has)
-heeds_more seconds count before after a m b has going (inr told) = record {
-  steps = Told has.steps told.0;
-  turns = has.turns;
-  told = ap (λ lines. lines ++ told.0 ∷ []) has.told ∙ sym told.1;
-  are_done = (m, has.are_done, going, told.2);
-}
-
--- a turn more
-ran_more : (seconds : Option ℕ) (count : ℕ) (lines : List (List ℕ)) (a m b : Seen) → HasDone seconds count lines a m
-    → ¬ (IsOver seconds m.machine.router.last) → Ran 1 m b → HasDone seconds (count + 1) lines a b
-ran_more seconds count lines a m b has in_time ran = record {
-  steps = Turned has.steps;
-  turns = ap (λ n. n + 1) has.turns;
-  told = has.told;
-  are_done = (m, has.are_done, (in_time, ran));
-}
-
--- a turn more, and what clients told then
-pub turns_more : (seconds : Option ℕ) (count : ℕ) (before after : List (List ℕ)) (a m b : Seen) → HasDone seconds count before a m
-    → ¬ (IsOver seconds m.machine.router.last) → TurnsAndHeeds before m after b → HasDone seconds (count + 1) after a b
-turns_more seconds count before after a m b has in_time does =
-    heeds_more seconds (count + 1) before after a does.0 b
-    (ran_more seconds count before a m does.0 has in_time does.1) does.2 does.3
+use Rattle.ripngd_daemon.proofs.Courses.{ran_more}
 
 -- what a run shows is of a router that started and lasted, over a link that was never called
 pub shows_run : (order : Order) (router : RouterValue) (rng : Lcg) (history : History) (first calls : List Call) (read bytes : List ℕ) (begun done : Seen)

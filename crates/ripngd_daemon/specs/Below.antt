@@ -24,13 +24,14 @@ pub use Rattle.ripngd_config.specs.declared.fault.ConfigFault.{ConfigFault}
 pub use Rattle.ripngd_control.specs.Clients.{ClientsState, Heeds, ObeysLine}
 pub use Rattle.ripngd_control.specs.Commands.{control_text}
 pub use Rattle.ripngd_control.specs.declared.command.Command.{Command}
-pub use Rattle.ripngd_control.specs.declared.command.Command.TheVariants.{Stop, StopNow}
+pub use Rattle.ripngd_control.specs.declared.command.Command.TheVariants.{LinkDown, Stop, StopNow}
 pub use Rattle.ripngd_control.specs.declared.control_socket.ListenFault.{ListenFault}
 pub use Rattle.ripngd_control.specs.declared.counts.Losses.{Losses}
 pub use Rattle.ripngd_engine.specs.Link.{Call, RecvFailed}
 pub use Rattle.ripngd_engine.specs.Log.{HasNoLineFeed, change_text, log_of, entry_lines, hop_text, route_text}
 pub use Rattle.ripngd_engine.specs.Run.{counted}
-pub use Rattle.ripngd_engine.specs.Seen.{Outside, Ran, RanUntilDeaf, Seen, Started, TurnsAnswer, untouched, seen}
+pub use Rattle.ripngd_engine.specs.Changing.{LinkComesUpOnce, ReconfiguresNothing}
+pub use Rattle.ripngd_engine.specs.Seen.{Acts, Outside, Ran, RanUntilDeaf, Seen, Started, TurnsAnswer, untouched, seen}
 pub use Rattle.ripngd_engine.specs.declared.peer.Peer.{Peer}
 pub use Rattle.ripngd_engine.specs.declared.peer.Place.{Place}
 pub use Rattle.ripngd_engine.specs.declared.peer.Socket.{Socket}
@@ -42,8 +43,11 @@ pub use Rattle.ripngd_udp.specs.Peers.{OnLink, links_at}
 pub use Rattle.ripngd_udp.specs.declared.udp.BindCause.{BindCause}
 pub use Rattle.ripngd_udp.specs.declared.udp.UdpError.{UdpError}
 pub use Rattle.router_core.specs.Faults.{ripng_port}
+pub use Rattle.router_core.specs.Machine.{State}
+pub use Rattle.ripngd_daemon.specs.declared.asking.Asking.{Asking}
 pub use Rattle.ripngd_daemon.specs.declared.failure.Failure.{Failure}
 pub use Rattle.ripngd_daemon.specs.declared.failure.FileCause.{FileCause}
 pub use Rattle.ripngd_daemon.specs.declared.history.History.{History}
+pub use Rattle.ripngd_daemon.specs.declared.questions.Sizes.{Sizes}
 pub use Rattle.ripngd_daemon.specs.declared.reading.LogFault.{LogFault}
 pub use Rattle.ripngd_daemon.specs.declared.reading.LogFault.TheVariants.{BadLine, OutOfMemory}

@@ -6,8 +6,9 @@ pub use Rattle.ripngd_daemon.specs.Failing.{MayFail}
 pub use Rattle.ripngd_daemon.specs.Faults.{failure_of, failure_of_engine, failure_of_link}
 pub use Rattle.ripngd_daemon.specs.LastRun.{IsLastRun, start_text}
 pub use Rattle.ripngd_daemon.specs.Losses.{AreLossesOf, has_failed, losses_line, no_losses, nothing_lost}
+pub use Rattle.ripngd_daemon.specs.Questions.{AsksAll, AsksIfDue, AsksOn, HasLost, IsDue, LosesRoute, Minds, MindsOnly, sizes_in}
 pub use Rattle.ripngd_daemon.specs.Reading.{IsFirstBadLine, MakesTable, log_fault_text, IsWritableChange, IsWritableHop, IsLogOf, IsRunOf, RefusesLog, RefusesRun}
-pub use Rattle.ripngd_daemon.specs.Run.{lines_of, FailsBound, FailsIn, IsCutOff, IsRan, ShowsRun, links_of, IsOver, IsToldToStop, Lasts, TurnsAndHeeds, words_of}
+pub use Rattle.ripngd_daemon.specs.Run.{lines_of, FailsBound, FailsIn, IsCutOff, IsRan, ShowsRun, links_of, IsOver, IsToldToStop, Lasts, CutsRoute, TurnsAndHeeds, Passes, words_of}
 pub use Rattle.ripngd_daemon.specs.Said.{cause_text, failure_line, failure_text, file_cause_text, socket_text, why_text}
 pub use Rattle.ripngd_daemon.specs.Tabled.{table_text, IsTabled}
 pub use Rattle.ripngd_daemon.specs.Warnings.{has_address, is_never_heard}

@@ -9,6 +9,7 @@ pub mod Reading
 pub mod Words
 pub mod Tabled
 pub mod Written
+pub mod Questions
 pub mod Run
 pub mod Asking
 pub mod Below

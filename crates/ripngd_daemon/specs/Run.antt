@@ -1,9 +1,10 @@
 -- What a run has done.
-use Rattle.std.specs.Prelude.{◌≡◌, ◌≢◌, ◌≤◌, ◌+◌, ◌*◌, ◌⊎◌, ℕ, Bool, true, false, List, [], ◌∷◌, ◌++◌, Option, None, Some, map}
-use Rattle.ripngd_daemon.specs.Below.{Appends, steps_u32, stream_of, Stream, Lcg, pcg32, Forwarding, Order, IsConfigured, RefusesConfig, Config, ConfigFault, ClientsState, Heeds, ObeysLine, control_text, Stop, StopNow, Call, RecvFailed, Outside, Ran, RanUntilDeaf, Seen, Started, untouched, OnLink, links_at, Failure, History}
+use Rattle.std.specs.Prelude.{◌≡◌, ◌≢◌, ◌≤◌, ◌+◌, ◌*◌, ◌⊎◌, ℕ, ⊤, Bool, true, false, List, [], ◌∷◌, ◌++◌, Option, None, Some, map}
+use Rattle.ripngd_daemon.specs.Below.{Appends, steps_u32, stream_of, Stream, Lcg, pcg32, Forwarding, Order, IsConfigured, RefusesConfig, Config, ConfigFault, ClientsState, Heeds, ObeysLine, control_text, LinkDown, Stop, StopNow, Call, RecvFailed, Outside, Ran, RanUntilDeaf, Seen, Started, untouched, OnLink, links_at, Asking, Failure, History}
 use Rattle.router_core.specs.Config.{Config as RouterValue}
 use Rattle.ripngd_config.specs.declared.fault.ConfigFault.TheVariants as config_faults
 use Rattle.ripngd_daemon.specs.declared.failure.Failure.TheVariants as failures
+use Rattle.ripngd_daemon.specs.Questions.{AsksAll, AsksIfDue, LosesRoute, Minds, MindsOnly}
 use Rattle.ripngd_daemon.specs.Losses.{AreLossesOf, has_failed}
 use Rattle.ripngd_daemon.specs.Tabled.{table_text}
 use Rattle.ripngd_daemon.specs.Written.{begins_with}
@@ -31,40 +32,79 @@ IsOver (Some seconds) moment = seconds * 1000 ≤ moment
 abbrev pub RanInTime : Option ℕ → Seen → Seen → Type 0
 RanInTime seconds a b = (¬ (IsOver seconds a.machine.router.last)) × Ran 1 a b
 
--- a router made a turn, which did not end it, and then obeyed the line of a client, or none
-abbrev pub TurnsAndHeeds : List (List ℕ) → Seen → List (List ℕ) → Seen → Type 0
-TurnsAndHeeds before a after b = (m : Seen) × Ran 1 a m × (m.machine.ended ≡ false) × Heeds before m after b
+-- a client's line cut a link, and with it a route was lost
+abbrev pub CutsRoute : List (List ℕ) → Seen → List (List ℕ) → Seen → Type 0
+CutsRoute before a after b = LosesRoute a b × (iface : ℕ) × (after ≡ before ++ control_text (LinkDown iface) ∷ [])
 
--- the steps of a router, the last one last: it made a turn, or obeyed the line of a client
+-- a router made a turn, which did not end it, and then obeyed the line of a client, or none. Routes that were lost are minded
+abbrev pub TurnsAndHeeds : Asking → List (List ℕ) → Seen → Asking → List (List ℕ) → Seen → Type 0
+TurnsAndHeeds old before a new after b = (m : Seen) × (middle : Asking) × Ran 1 a m × (m.machine.ended ≡ false) × Minds (LosesRoute a m) old middle
+    × Heeds before m after b × MindsOnly (CutsRoute before m after b) middle new
+
+-- and then, if it has not ended, it asked its neighbors if that was due
+abbrev pub Passes : Asking → List (List ℕ) → Seen → Asking → List (List ℕ) → Seen → Type 0
+Passes old before a new after b = (m : Seen) × (middle : Asking) × TurnsAndHeeds old before a middle after m
+    × (((new ≡ middle) × (b ≡ m)) ⊎ ((m.machine.ended ≡ false) × AsksIfDue middle m new b))
+
+-- the steps of a router, the last one last: it made a turn, obeyed the line of a client, or asked its neighbors for their tables
 pub data Steps : Type 0 where
   Begun : Steps
   Turned : Steps → Steps
   Told : Steps → List ℕ → Steps
+  Asked : Steps → Steps
 
 -- how many of them are turns
 abbrev pub turns_in : Steps → ℕ
 turns_in Begun = 0
 turns_in (Turned before) = turns_in before + 1
 turns_in (Told before line) = turns_in before
+turns_in (Asked before) = turns_in before
 
 -- the lines among them, in their order
 abbrev pub lines_in : Steps → List (List ℕ)
 lines_in Begun = []
 lines_in (Turned before) = lines_in before
 lines_in (Told before line) = lines_in before ++ line ∷ []
+lines_in (Asked before) = lines_in before
 
--- they were done: each turn in time, each line obeyed by a router that had not ended
+-- they were done: each turn in time, each line obeyed by a router that had not ended, and each question asked on all links
 abbrev pub AreDone : Option ℕ → Steps → Seen → Seen → Type 0
 AreDone seconds Begun a b = b ≡ a
 AreDone seconds (Turned before) a b = (m : Seen) × AreDone seconds before a m × RanInTime seconds m b
 AreDone seconds (Told before line) a b = (m : Seen) × AreDone seconds before a m × (m.machine.ended ≡ false) × ObeysLine line m b
+AreDone seconds (Asked before) a b = (m : Seen) × AreDone seconds before a m × AsksAll m b
 
--- `count` turns were made, and just these lines of clients obeyed between them
+-- since it asked last, it has lost a route, in a turn or by a link that a client cut
+abbrev pub HasLostSince : (seconds : Option ℕ) (steps : Steps) (a b : Seen) → AreDone seconds steps a b → Type 0
+HasLostSince seconds Begun a b done = ⊥
+HasLostSince seconds (Turned before) a b done = LosesRoute done.0 b ⊎ HasLostSince seconds before a done.0 done.1
+HasLostSince seconds (Told before line) a b done =
+    (LosesRoute done.0 b × (iface : ℕ) × (line ≡ control_text (LinkDown iface))) ⊎ HasLostSince seconds before a done.0 done.1
+HasLostSince seconds (Asked before) a b done = ⊥
+
+-- it asked last a second before a moment, or earlier, or never
+abbrev pub IsSecondAfter : ℕ → (seconds : Option ℕ) (steps : Steps) (a b : Seen) → AreDone seconds steps a b → Type 0
+IsSecondAfter now seconds Begun a b done = ⊤
+IsSecondAfter now seconds (Turned before) a b done = IsSecondAfter now seconds before a done.0 done.1
+IsSecondAfter now seconds (Told before line) a b done = IsSecondAfter now seconds before a done.0 done.1
+IsSecondAfter now seconds (Asked before) a b done = b.machine.router.last + 1000 ≤ now
+
+-- it asks only after a loss, and never twice in a second
+abbrev pub AsksRightly : (seconds : Option ℕ) (steps : Steps) (a b : Seen) → AreDone seconds steps a b → Type 0
+AsksRightly seconds Begun a b done = ⊤
+AsksRightly seconds (Turned before) a b done = AsksRightly seconds before a done.0 done.1
+AsksRightly seconds (Told before line) a b done = AsksRightly seconds before a done.0 done.1
+AsksRightly seconds (Asked before) a b done = HasLostSince seconds before a done.0 done.1
+    × IsSecondAfter done.0.machine.router.last seconds before a done.0 done.1 × AsksRightly seconds before a done.0 done.1
+
+-- `count` turns were made, and just these lines of clients obeyed between them; the router asked its neighbors for their tables only
+-- after a loss, and never twice in a second
 pub record HasDone (seconds : Option ℕ) (count : ℕ) (lines : List (List ℕ)) (a b : Seen) : Type 0 where
   pub steps : Steps
   pub turns : turns_in steps ≡ count
   pub told : lines_in steps ≡ lines
   pub are_done : AreDone seconds steps a b
+  pub asks : AsksRightly seconds steps a b are_done
 
 -- the last of these lines is `stop` or `stop now`
 abbrev pub IsToldToStop : List (List ℕ) → Type 0

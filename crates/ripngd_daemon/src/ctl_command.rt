@@ -79,7 +79,8 @@ fn usage_of(command: &str) -> &'static str {
         "unpeer" => "unpeer INTERFACE ADDRESS",
         "link" => "link down INTERFACE, or link up INTERFACE",
         "stop" => "stop [now]",
-        "routes" | "table" | "counts" | "neighbors" | "status" => "no word follows",
+        "status" => "status [json]",
+        "routes" | "table" | "counts" | "neighbors" => "no word follows",
         _ => "see `ripngd help ctl`",
     }
 }

@@ -5,6 +5,7 @@
 //! log has, and which texts are no log.
 #![tactic(auto)]
 
+mod asking;
 mod check_command;
 mod ctl_command;
 mod failure;
@@ -12,6 +13,7 @@ mod files;
 mod history;
 mod line;
 mod peering;
+mod questions;
 mod reading;
 mod run_command;
 mod run_log;

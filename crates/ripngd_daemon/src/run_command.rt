@@ -39,6 +39,8 @@ struct Ready<'r, R: Clock> {
     link: Udp<'r, R>,
     rng: Pcg32,
     log: RunLog<'r, R>,
+    /// Whether a link of it is real, so that anybody there may be a sender.
+    is_real: bool,
 }
 
 /// Lets the C library keep the memory of an update for the next one. Where more than 128 KiB are free at the end of the heap, glibc gives
@@ -140,6 +142,7 @@ fn run_configured<'a, R: System, O: Write, E: Write>(
     let _ = write_echoes(&config, err);
     let peers = config.peers;
     let places = config.places.as_slice();
+    let is_real = places.iter().any(|place| place.socket.is_real());
     let link = history.ports.bind(rt, rt.alloc(), places, peers)?;
     history.clients = clients_of(rt, order, &link)?;
     let ready = Ready {
@@ -147,6 +150,7 @@ fn run_configured<'a, R: System, O: Write, E: Write>(
         link,
         rng: config.rng,
         log,
+        is_real,
     };
     let outcome = run_ready(rt, order, ready, history, out, err);
     history.stop_listening(rt, order.control);
@@ -179,7 +183,7 @@ fn run_ready<'r, 'a, R: System, O: Write, E: Write>(
     let interfaces = ready.router.interfaces().len();
     let plural = if interfaces == 1 { "" } else { "s" };
     let _ = writeln!(err, "ripngd: running, {interfaces} interface{plural}");
-    let mut monitor = Monitor::new(rt.alloc(), err, !order.debug);
+    let mut monitor = Monitor::new(rt.alloc(), err, !order.debug, ready.is_real);
     let clock = Uptime::new(rt);
     let mut engine: UdpEngine<'r, R> = Engine::start(
         rt.alloc(),

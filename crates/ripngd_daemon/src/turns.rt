@@ -1,11 +1,13 @@
-//! The turns of a running router, with the commands of its clients between them.
+//! The turns of a running router, with the commands of its clients and its questions to its neighbors between them.
 
 ghost use Rattle.std.specs.Prelude.{◌≡◌, ◌≢◌, ◌≤◌, ◌*◌, ◌↔◌, [], Err, IfErr, IfOk, IsTrue, OnOk, None, false, true};
-ghost use Rattle.ripngd_daemon.specs.Common.{Appends, Heeds, Ran, TurnsAnswer, seen, FailsIn, MayFail, IsOver, IsToldToStop, Lasts, TurnsAndHeeds, lines_of, words_of, table_text};
+ghost use Rattle.ripngd_daemon.specs.Common.{Appends, Heeds, Ran, TurnsAnswer, seen, FailsIn, MayFail, IsOver, IsToldToStop, Lasts, CutsRoute, MindsOnly, Passes, TurnsAndHeeds, lines_of, words_of, table_text};
 
+use crate::asking::Asking;
 use crate::failure::Failure;
 use crate::history::losses_of;
 use crate::peering::PeerUpdate;
+use crate::questions::{ask_if_due, mind_loss, sizes_of};
 use rand_pcg::Pcg32;
 use ripngd_command_line::{Ask, Order};
 use ripngd_control::{Clients, Monitor, RunState};
@@ -26,6 +28,14 @@ const SHORT_MS: u64 = 50;
 
 /// For how many more turns the listening socket is polled after a client was there: another may have connected meanwhile, or failed to.
 const LOOKS: u32 = 64;
+
+/// What is kept from one turn of a router to the next.
+#[derive(Drop)]
+struct Between {
+    /// For how many more turns the listening socket is polled.
+    looks: u32,
+    asking: Asking,
+}
 
 /// Whether the seconds, if a number was ordered, had passed at the last step of a router.
 fn is_over<R: Clock>(seconds: Option<u32>, engine: &UdpEngine<'_, R>) -> bool
@@ -48,18 +58,27 @@ impl<'r, R: Clock> LinkChange<Udp<'r, R>> for Pause {
     }
 }
 
-/// How long the next turn may last: until the router has something to do, or its seconds have passed. It is short where turns are
-/// counted, while the listening socket is polled for clients, after a turn with a datagram, and where something is due already.
-fn pause_before<R: Clock>(order: Order<'_>, engine: &UdpEngine<'_, R>, looks: u32) -> Pause {
-    if order.turns < u32::MAX || looks > 0 || !engine.link().was_silent() {
-        return Pause(SHORT_MS);
-    }
-    let due = engine.router().wakes_at().ms();
-    let end = match order.seconds {
-        Some(seconds) => due.min(u64::from(seconds) * SECOND),
+/// When the router has something to do, asks its neighbors, or has made its seconds.
+fn first_due<R: Clock>(order: Order<'_>, engine: &UdpEngine<'_, R>, asking: &Asking) -> u64 {
+    let router = engine.router();
+    let due = router.wakes_at().ms();
+    let due = match asking.wakes_at(router.config().is_quiet()) {
+        Some(question) => due.min(question),
         None => due,
     };
-    match end.saturating_sub(engine.router().last().ms()) {
+    match order.seconds {
+        Some(seconds) => due.min(u64::from(seconds) * SECOND),
+        None => due,
+    }
+}
+
+/// How long the next turn may last: until the router has something to do, or its seconds have passed. It is short where turns are
+/// counted, while the listening socket is polled for clients, after a turn with a datagram, and where something is due already.
+fn pause_before<R: Clock>(order: Order<'_>, engine: &UdpEngine<'_, R>, between: &Between) -> Pause {
+    if order.turns < u32::MAX || between.looks > 0 || !engine.link().was_silent() {
+        return Pause(SHORT_MS);
+    }
+    match first_due(order, engine, &between.asking).saturating_sub(engine.router().last().ms()) {
         0 => Pause(SHORT_MS),
         left => Pause(left),
     }
@@ -71,7 +90,7 @@ fn serve_clients<R: Clock + AllocGlobal, W: Write, E: Write>(
     order: Order<'_>,
     engine: &mut UdpEngine<'_, R>,
     clients: &mut Option<Clients>,
-    looks: &mut u32,
+    between: &mut Between,
     log: &mut W,
     monitor: &Monitor<E>,
 ) -> RunState
@@ -79,23 +98,32 @@ fn serve_clients<R: Clock + AllocGlobal, W: Write, E: Write>(
     ensures heeds { Heeds (lines_of clients.old) (seen words_of W.contents engine.old log.old)
         (lines_of clients.new) (seen words_of W.contents engine.new log.new) }
     ensures goes_on { result ≢ RunState.Ended → engine.new.ended ≡ false }
+    ensures minds { MindsOnly (CutsRoute (lines_of clients.old) (seen words_of W.contents engine.old log.old)
+        (lines_of clients.new) (seen words_of W.contents engine.new log.new)) between.old.asking between.new.asking }
     ensures stops { result ≡ RunState.Stopped → IsToldToStop (lines_of clients.new) }
     ensures alone { clients.old ≡ None → clients.new ≡ None }
 {
     let Some(clients) = clients else {
-        *looks = 0;
+        between.looks = 0;
         return RunState::Running;
     };
-    if engine.link().was_called() || clients.is_serving() {
-        *looks = LOOKS;
-    }
-    if *looks == 0 {
+    let looks = match engine.link().was_called() || clients.is_serving() {
+        true => LOOKS,
+        false => between.looks,
+    };
+    if looks == 0 {
         return RunState::Running;
     }
-    *looks -= 1;
+    between.looks = looks - 1;
+    let before = sizes_of(engine);
     let lost = losses_of(order.log, engine.report(), engine.link());
     let mut peering = PeerUpdate::new();
-    clients.serve(rt, engine, monitor, lost, &mut peering, log)
+    let (state, is_cut) = clients.serve(rt, engine, monitor, lost, &mut peering, log);
+    if !is_cut {
+        return state;
+    }
+    mind_loss(&mut between.asking, before, engine);
+    state
 }
 
 /// Writes a line where the log of a router has failed and had not before.
@@ -118,13 +146,13 @@ fn turn<R: Clock + AllocGlobal, W: Write, E: Write>(
     order: Order<'_>,
     engine: &mut UdpEngine<'_, R>,
     clients: &mut Option<Clients>,
-    looks: &mut u32,
+    between: &mut Between,
     log: &mut W,
     monitor: &mut Monitor<E>,
 ) -> Result<RunState, EngineFault>
     requires { engine.old.ended ≡ false }
-    ensures does { OnOk result (TurnsAndHeeds (lines_of clients.old) (seen words_of W.contents engine.old log.old)
-        (lines_of clients.new) (seen words_of W.contents engine.new log.new)) }
+    ensures does { OnOk result (TurnsAndHeeds between.old.asking (lines_of clients.old) (seen words_of W.contents engine.old log.old)
+        between.new.asking (lines_of clients.new) (seen words_of W.contents engine.new log.new)) }
     ensures fails { IfErr result (λ fault. (lines_of clients.new ≡ lines_of clients.old)
         × TurnsAnswer 1 (seen words_of W.contents engine.old log.old) (Err fault) (seen words_of W.contents engine.new log.new)) }
     ensures goes_on { IfOk result (λ state. state ≢ RunState.Ended → engine.new.ended ≡ false) }
@@ -133,12 +161,47 @@ fn turn<R: Clock + AllocGlobal, W: Write, E: Write>(
 {
     // Nothing is said of a log that is not ordered.
     let had_failed = order.log.is_none() || engine.report().log_failed;
-    let mut pause = pause_before(order, engine, *looks);
+    let held = sizes_of(engine);
+    let mut pause = pause_before(order, engine, between);
     engine.change_link(&mut pause);
     engine.turns_observed(1, log, monitor)?;
-    let state = serve_clients(rt, order, engine, clients, looks, log, monitor);
+    mind_loss(&mut between.asking, held, engine);
+    let state = serve_clients(rt, order, engine, clients, between, log, monitor);
     tell_of_log(engine, had_failed, monitor);
     Ok(state)
+}
+
+/// Makes a turn, serves the clients, and then asks the neighbors, if that is due.
+///
+/// # Errors
+/// Those of the turn. No client was served then, and nobody asked.
+fn pass<R: Clock + AllocGlobal, W: Write, E: Write>(
+    rt: &R,
+    order: Order<'_>,
+    engine: &mut UdpEngine<'_, R>,
+    clients: &mut Option<Clients>,
+    between: &mut Between,
+    log: &mut W,
+    monitor: &mut Monitor<E>,
+) -> Result<RunState, EngineFault>
+    requires { engine.old.ended ≡ false }
+    ensures does { OnOk result (Passes between.old.asking (lines_of clients.old) (seen words_of W.contents engine.old log.old)
+        between.new.asking (lines_of clients.new) (seen words_of W.contents engine.new log.new)) }
+    ensures fails { IfErr result (λ fault. (lines_of clients.new ≡ lines_of clients.old)
+        × TurnsAnswer 1 (seen words_of W.contents engine.old log.old) (Err fault) (seen words_of W.contents engine.new log.new)) }
+    ensures goes_on { IfOk result (λ state. state ≢ RunState.Ended → engine.new.ended ≡ false) }
+    ensures stops { IfOk result (λ state. state ≡ RunState.Stopped → IsToldToStop (lines_of clients.new)) }
+    ensures alone { clients.old ≡ None → clients.new ≡ None }
+{
+    let state = turn(rt, order, engine, clients, between, log, monitor)?;
+    match state {
+        RunState::Running => match ask_if_due(engine, &mut between.asking, log, monitor) {
+            true => Ok(RunState::Running),
+            false => Ok(RunState::Ended),
+        },
+        RunState::Stopped => Ok(RunState::Stopped),
+        RunState::Ended => Ok(RunState::Ended),
+    }
 }
 
 /// Makes turns until as many were made as ordered, or the seconds have passed, or a client stops the router.
@@ -162,12 +225,15 @@ fn make_turns<'a, R: Clock + AllocGlobal, W: Write, E: Write>(
     ensures alone { clients.old ≡ None → clients.new ≡ None }
     ensures failed { IfErr result (MayFail (Ask.Run order.entry)) }
 {
-    let mut looks = LOOKS;
+    let mut between = Between {
+        looks: LOOKS,
+        asking: Asking::new(),
+    };
     for done in 0..order.turns {
         if is_over(order.seconds, engine) {
             return Ok(());
         }
-        match turn(rt, order, engine, clients, &mut looks, log, monitor) {
+        match pass(rt, order, engine, clients, &mut between, log, monitor) {
             Ok(RunState::Running) => {}
             Ok(RunState::Stopped) => return Ok(()),
             Ok(RunState::Ended) => return Err(Failure::OutOfMemory),

@@ -1,6 +1,7 @@
--- What a run does is so much of a daemon's life.
+-- What a turn does, and what a client's line does, is so much of a daemon's life.
 use Rattle.std.proofs.Common.{◌≡◌, ◌≢◌, ◌⊎◌, inl, inr, ℕ, ◌≤◌, Bool, true, false, MatchBool, List, [], ◌∷◌, ◌++◌, length, Option, Some, None, refl, ap, sym, subst, ◌∙◌, append_assoc, append-nil, arith}
 use Rattle.std.specs.List.{AllByRecursion, cons_option}
+use Rattle.router_core.proofs.OwnedStay.{each_append}
 use Rattle.router_core.specs.Config.{Config}
 use Rattle.router_core.specs.Reconfiguring.{NamesInterface}
 use Rattle.router_core.specs.declared.reconfiguring.Change.{Change}
@@ -16,24 +17,23 @@ use Rattle.ripngd_control.specs.declared.command.Command.{Command}
 use Rattle.ripngd_control.specs.declared.command.Command.TheVariants as commands
 use Rattle.ripngd_control.specs.declared.reply.Reply.{Reply}
 use Rattle.ripngd_control.specs.declared.reply.Reply.TheVariants as replies
-use Rattle.ripngd_daemon.specs.Run.{AreDone, Steps, Begun, Turned, Told, lines_in}
-use Rattle.ripngd_networks.specs.Daemons.{Act, Start, Listen, Tick, Reconfigure, Shutdown, LinkDown, LinkUp, Refuse, Deed, Does as DoesNext, HearsCall, Lives, traces_of}
+use Rattle.ripngd_networks.specs.Daemons.{Act, Start, Listen, Tick, Reconfigure, Shutdown, LinkDown, LinkUp, Ask, Refuse, Deed, Does as DoesNext, HearsCall, Lives, traces_of}
 use Rattle.ripngd_runs.specs.Lives.{ordered_act, ordered_acts, IsDoneOrRefused, AreActsFor, AreActsForLines}
-use Rattle.ripngd_runs.proofs.Staying.{lives_interfaces}
+use Rattle.ripngd_runs.specs.Questions.{asks_on}
 
 -- ---- lists
 
-followed_by-no_step : (t : Trace) → followed_by t no_step ≡ t
+pub followed_by-no_step : (t : Trace) → followed_by t no_step ≡ t
 followed_by-no_step t = simp append-nil
 
 followed_by-assoc : (a b c : Trace) → followed_by (followed_by a b) c ≡ followed_by a (followed_by b c)
 followed_by-assoc a b c = simp append_assoc
 
-joined-append : (ts us : List Trace) → all_joined (ts ++ us) ≡ followed_by (all_joined ts) (all_joined us)
+pub joined-append : (ts us : List Trace) → all_joined (ts ++ us) ≡ followed_by (all_joined ts) (all_joined us)
 joined-append [] us = refl
 joined-append (t ∷ ts) us = ap (followed_by t) (joined-append ts us) ∙ sym (followed_by-assoc t (all_joined ts) (all_joined us))
 
-traces-append : (xs ys : List Deed) → traces_of (xs ++ ys) ≡ traces_of xs ++ traces_of ys
+pub traces-append : (xs ys : List Deed) → traces_of (xs ++ ys) ≡ traces_of xs ++ traces_of ys
 traces-append [] ys = refl
 traces-append (x ∷ xs) ys = ap (λ ts. x.trace ∷ ts) (traces-append xs ys)
 
@@ -54,25 +54,38 @@ ordered-append (d ∷ xs) ys = ap (cons_option (ordered_act d.act)) (ordered-app
 abbrev pub AreUnstarted : List Deed → Type 0
 AreUnstarted deeds = AllByRecursion (λ d. d.act ≢ Start) deeds
 
-unstarted-append : (xs ys : List Deed) → AreUnstarted xs → AreUnstarted ys → AreUnstarted (xs ++ ys)
-unstarted-append [] ys first later = later
-unstarted-append (d ∷ xs) ys first later = (first.0, unstarted-append xs ys first.1 later)
+-- no deed of these asks on a link
+abbrev pub AreUnasked : ℕ → List Deed → Type 0
+AreUnasked iface deeds = AllByRecursion (λ d. asks_on iface d.act ≡ false) deeds
+
+-- what a client orders is no question of the daemon's own
+ordered_unasked : (iface : ℕ) (act : Act) → ordered_act act ≡ Some act → asks_on iface act ≡ false
+ordered_unasked iface Start is = refl
+ordered_unasked iface (Listen call) is = refl
+ordered_unasked iface Tick is = refl
+ordered_unasked iface (Reconfigure c) is = refl
+ordered_unasked iface Shutdown is = refl
+ordered_unasked iface (LinkDown on) is = refl
+ordered_unasked iface (LinkUp on) is = refl
+ordered_unasked iface (Ask on) is = absurd (cc is)
+ordered_unasked iface Refuse is = refl
 
 -- ---- so much of a life
 
--- deeds that lead on, of which the outside gained just what they did, and clients ordered just these acts
+-- deeds that lead on, of which the outside gained just what they did, and clients ordered just these acts. None is a question
 pub record Did (config : Config) (a : Seen) (acts : List Act) (b : Seen) : Type 0 where
   pub deeds : List Deed
   pub lives : Lives config (Some a.machine) deeds (Some b.machine)
   pub shows : Shows a.outside (all_joined (traces_of deeds)) b.outside
   pub ordered : ordered_acts deeds ≡ acts
   pub unstarted : AreUnstarted deeds
+  pub unasked : (iface : ℕ) → AreUnasked iface deeds
 
 module _ (config : Config) where
   pub nothing : (a b : Seen) → b ≡ a → Did config a [] b
   nothing a b same =
       subst (λ x. Did config a [] x) (sym same)
-      (record { deeds = []; lives = refl; shows = Shows-no_step a.outside; ordered = refl; unstarted = tt })
+      (record { deeds = []; lives = refl; shows = Shows-no_step a.outside; ordered = refl; unstarted = tt; unasked = λ iface. tt })
 
   pub did_on : (a m b : Seen) (xs ys : List Act) → Did config a xs m → Did config m ys b → Did config a (xs ++ ys) b
   did_on a m b xs ys first later = record {
@@ -83,7 +96,8 @@ module _ (config : Config) where
         (sym (ap all_joined (traces-append first.deeds later.deeds) ∙ joined-append (traces_of first.deeds) (traces_of later.deeds)))
         (Shows-trans a.outside m.outside b.outside (all_joined (traces_of first.deeds)) (all_joined (traces_of later.deeds)) first.shows later.shows);
     ordered = ordered-append first.deeds later.deeds ∙ ap (λ x. x ++ ordered_acts later.deeds) first.ordered ∙ ap (λ y. xs ++ y) later.ordered;
-    unstarted = unstarted-append first.deeds later.deeds first.unstarted later.unstarted;
+    unstarted = each_append (λ d. d.act ≢ Start) first.deeds later.deeds first.unstarted later.unstarted;
+    unasked = λ iface. each_append (λ d. asks_on iface d.act ≡ false) first.deeds later.deeds (first.unasked iface) (later.unasked iface);
   }
 
   one_act : (act : Act) (Does : Machine → Trace → Machine → Type 0) (a b : Seen) → ordered_act act ≡ Some act → act ≢ Start
@@ -94,6 +108,7 @@ module _ (config : Config) where
     shows = subst (λ t. Shows a.outside t b.outside) (sym (followed_by-no_step acts.trace)) acts.shows;
     ordered = ap (λ o. cons_option o []) is_ordered;
     unstarted = (other, tt);
+    unasked = λ iface. (ordered_unasked iface act is_ordered, tt);
   }
 
   refused : (a b : Seen) → a.machine.ended ≡ false → Acts ReconfiguresNothing a b → Did config a (Refuse ∷ []) b
@@ -114,6 +129,7 @@ module _ (config : Config) where
     trace : all_joined (traces_of deeds) ≡ t
     ordered : ordered_acts deeds ≡ []
     unstarted : AreUnstarted deeds
+    unasked : (iface : ℕ) → AreUnasked iface deeds
 
   turned_so : (m : Machine) (t : Trace) (n : Machine) → Turn m t n → Turned_so m t n
   turned_so m t n turn = by_end turn.middle.ended refl turn.ticks
@@ -130,6 +146,7 @@ module _ (config : Config) where
             ∙ sym (followed_by-assoc (one_call turn.call) turn.taken no_step));
         ordered = refl;
         unstarted = ((λ e. cc e), tt);
+        unasked = λ iface. (refl, tt);
       }
       by_end false is once = record {
         deeds = record { act = Listen turn.call; trace = followed_by (one_call turn.call) turn.taken } ∷ (record { act = Tick; trace = turn.ticked } ∷ []);
@@ -139,9 +156,10 @@ module _ (config : Config) where
             ∙ ap (followed_by (followed_by (one_call turn.call) turn.taken)) (sym (followed_by-no_step turn.ticked)));
         ordered = refl;
         unstarted = ((λ e. cc e), ((λ e. cc e), tt));
+        unasked = λ iface. (refl, (refl, tt));
       }
 
-  turned : (a b : Seen) → Ran 1 a b → Did config a [] b
+  pub turned : (a b : Seen) → Ran 1 a b → Did config a [] b
   turned a b ran = by ran.traces ran.count_is ran.turns ran.shows
     where
       by : (ts : List Trace) → length ts ≡ 1 → Turns a.machine ts b.machine → Shows a.outside (all_joined ts) b.outside → Did config a [] b
@@ -155,12 +173,13 @@ module _ (config : Config) where
             shows = subst (λ x. Shows a.outside x b.outside) (followed_by-no_step t ∙ sym so.trace) shows;
             ordered = so.ordered;
             unstarted = so.unstarted;
+            unasked = so.unasked;
           }
 
   -- ---- a line
 
   -- so the router did what a command says, where its interfaces are those of this configuration
-  abbrev DidFor : Config → Command → Seen → Seen → Type 0
+  abbrev pub DidFor : Config → Command → Seen → Seen → Type 0
   DidFor first command a b = (acts : List Act) × AreActsFor first command acts × Did config a acts b
 
   module _ (first : Config) (a b : Seen) (same : length a.machine.router.config.interfaces ≡ length first.interfaces) (going : a.machine.ended ≡ false) where
@@ -229,7 +248,7 @@ module _ (config : Config) where
   asked : (first : Config) (command : Command) (a b : Seen) → ((acts : List Act) → acts ≡ [] → AreActsFor first command acts) → b ≡ a → DidFor first command a b
   asked first command a b is same = ([], is [] refl, nothing a b same)
 
-  obeyed : (first : Config) (a b : Seen) → length a.machine.router.config.interfaces ≡ length first.interfaces → a.machine.ended ≡ false
+  pub obeyed : (first : Config) (a b : Seen) → length a.machine.router.config.interfaces ≡ length first.interfaces → a.machine.ended ≡ false
       → (command : Command) (reply : Reply) → Obeys command a reply b → DidFor first command a b
   obeyed first a b same going (commands.Reconfigure c) reply obeys = changed first a b same going c reply obeys
   obeyed first a b same going commands.Stop reply obeys = stopped first a b going reply obeys
@@ -242,13 +261,13 @@ module _ (config : Config) where
   obeyed first a b same going (commands.Lookup d) reply obeys = asked first (commands.Lookup d) a b (λ acts none. none) obeys
   obeyed first a b same going commands.Counts reply obeys = asked first commands.Counts a b (λ acts none. none) obeys
   obeyed first a b same going commands.Status reply obeys = asked first commands.Status a b (λ acts none. none) obeys
+  obeyed first a b same going commands.StatusJson reply obeys = asked first commands.StatusJson a b (λ acts none. none) obeys
   obeyed first a b same going commands.Neighbors reply obeys = asked first commands.Neighbors a b (λ acts none. none) obeys
   obeyed first a b same going commands.StopNow reply obeys = asked first commands.StopNow a b (λ acts none. none) obeys
   obeyed first a b same going (commands.Link c) reply obeys = asked first (commands.Link c) a b (λ acts none. none) obeys
 
-  -- ---- all steps
-
-  lines_more : (first : Config) (lines : List (List ℕ)) (acts : List Act) (line : List ℕ) (command : Command) (more : List Act) → AreActsForLines first lines acts
+  -- one line more
+  pub lines_more : (first : Config) (lines : List (List ℕ)) (acts : List Act) (line : List ℕ) (command : Command) (more : List Act) → AreActsForLines first lines acts
       → line ≡ control_text command → AreActsFor first command more → AreActsForLines first (lines ++ line ∷ []) (acts ++ more)
   lines_more first [] acts line command more none is are = (command, more, [], is, are, refl, ap (λ x. x ++ more) none ∙ sym (append-nil more))
   lines_more first (l ∷ lines) acts line command more have is are = (
@@ -260,21 +279,3 @@ module _ (config : Config) where
     lines_more first lines have.2 line command more have.5 is are,
     ap (λ x. x ++ more) have.6 ∙ append_assoc have.1 have.2 more,
   )
-
-  -- so much was done, for these lines
-  abbrev pub DidLines : Config → List (List ℕ) → Seen → Seen → Type 0
-  DidLines first lines a b = (acts : List Act) × AreActsForLines first lines acts × Did config a acts b
-
-  pub all_done : (first : Config) (seconds : Option ℕ) (steps : Steps) (a b : Seen) → length a.machine.router.config.interfaces ≡ length first.interfaces
-      → AreDone seconds steps a b → DidLines first (lines_in steps) a b
-  all_done first seconds Begun a b same done = ([], refl, nothing a b done)
-  all_done first seconds (Turned before) a b same done =
-      let early = all_done first seconds before a done.0 same done.1 in
-      (early.0, early.1, subst (λ acts. Did config a acts b) (append-nil early.0) (did_on a done.0 b early.0 [] early.2 (turned done.0 b done.2.1)))
-  all_done first seconds (Told before line) a b same done =
-      let m = done.0 in
-      let early = all_done first seconds before a m same done.1 in
-      let here : length m.machine.router.config.interfaces ≡ length first.interfaces = lives_interfaces config (Some a.machine) early.2.deeds m.machine early.2.lives ∙ same in
-      let obeys = done.3 in
-      let did = obeyed first m b here done.2 obeys.0 obeys.1 obeys.3 in
-      (early.0 ++ did.0, lines_more first (lines_in before) early.0 line obeys.0 did.0 early.1 obeys.2 did.1, did_on a m b early.0 did.0 early.2 did.2)

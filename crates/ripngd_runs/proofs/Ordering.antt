@@ -93,6 +93,7 @@ command_unchanged config commands.Table acts never are = ap changes_in are
 command_unchanged config (commands.Lookup d) acts never are = ap changes_in are
 command_unchanged config commands.Counts acts never are = ap changes_in are
 command_unchanged config commands.Status acts never are = ap changes_in are
+command_unchanged config commands.StatusJson acts never are = ap changes_in are
 command_unchanged config commands.Neighbors acts never are = ap changes_in are
 command_unchanged config commands.StopNow acts never are = ap changes_in are
 command_unchanged config (commands.Link c) acts never are = ap changes_in are

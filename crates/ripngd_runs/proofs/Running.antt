@@ -20,7 +20,8 @@ use Rattle.ripngd_engine.specs.Telling.{Gains}
 use Rattle.ripngd_engine.proofs.Steps.{Shows-no_step, Shows-trans}
 use Rattle.ripngd_networks.specs.Daemons.{Start, Listen, Deed, Lives, in_force, traces_of}
 use Rattle.ripngd_runs.specs.Lives.{AreActsForLines, IsLife}
-use Rattle.ripngd_runs.proofs.Obeying.{Did, DidLines, all_done, did_on, nothing}
+use Rattle.ripngd_runs.proofs.Asking.{DidSteps, all_done, led_then}
+use Rattle.ripngd_runs.proofs.Obeying.{Did, nothing}
 use Rattle.ripngd_runs.proofs.Staying.{lives_interfaces}
 
 -- a life, the calls of its link, and the moments of its clock
@@ -34,11 +35,10 @@ pub lives_then : (order : Order) (config : Config) (before : Option Machine) (rn
     → IsUnderWay order (in_force config before) rng calls lines now → Did config now [] end → (deeds : List Deed) × IsLife config before order lines deeds end
 lives_then order config before rng calls lines now end run then =
     let up : Lives config before (record { act = Start; trace = run.started.trace } ∷ []) (Some run.begun.machine) = (run.begun.machine, (words_of rng, run.started.comes_up), refl) in
-    let did : DidLines config (in_force config before) lines run.begun now =
-    subst (λ ls. DidLines config (in_force config before) ls run.begun now) run.has_done.told
-    (all_done config (in_force config before) order.seconds run.has_done.steps run.begun now
-    (lives_interfaces config before (record { act = Start; trace = run.started.trace } ∷ []) run.begun.machine up) run.has_done.are_done) in
-    let all : Did config run.begun did.0 end = subst (λ acts. Did config run.begun acts end) (append-nil did.0) (did_on config run.begun now end did.0 [] did.2 then) in (
+    let did : DidSteps config (in_force config before) order.seconds run.has_done.steps run.begun now run.has_done.are_done =
+    all_done config (in_force config before) order.seconds run.has_done.steps run.begun now
+    (lives_interfaces config before (record { act = Start; trace = run.started.trace } ∷ []) run.begun.machine up) run.has_done.are_done run.has_done.asks in
+    let all = led_then config (in_force config before) order.seconds run.has_done.steps run.begun now end run.has_done.are_done did.0 did.2 then in (
       record { act = Start; trace = run.started.trace } ∷ all.deeds,
       record {
         first = record { act = Start; trace = run.started.trace };
@@ -48,7 +48,10 @@ lives_then order config before rng calls lines now end run then =
         once = all.unstarted;
         lives = (run.begun.machine, (words_of rng, run.started.comes_up), all.lives);
         shows = Shows-trans (outside_before order) run.begun.outside end.outside run.started.trace (all_joined (traces_of all.deeds)) run.started.shows all.shows;
-        ordered = subst (AreActsForLines (in_force config before) lines) (sym all.ordered) did.1;
+        ordered =
+            subst (AreActsForLines (in_force config before) lines) (sym all.ordered)
+            (subst (λ ls. AreActsForLines (in_force config before) ls did.0) run.has_done.told did.1);
+        asks = λ iface. (run.begun.machine, (words_of rng, run.started.comes_up), all.asks iface);
       },
     )
 
@@ -128,6 +131,7 @@ module _ (config : Config) (now end : Seen) (going : end.machine.ended ≡ false
             shows = Shows-trans now.outside until.middle.outside end.outside no_step (one_call RecvFailed) shows (heard_nothing until.middle until.deaf);
             ordered = refl;
             unstarted = ((λ e. cc e), tt);
+            unasked = λ iface. (refl, tt);
           }
 
 -- what it did last

@@ -89,6 +89,7 @@ one_turn router up turn begun now comes_up turns went went_too =
               },
             ),
           );
+          asks = tt;
         };
         calls_are = refl;
         moments = up.moments ++ (turn.moments ++ []);

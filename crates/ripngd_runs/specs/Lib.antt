@@ -1,3 +1,4 @@
+pub mod Questions
 pub mod Lives
 pub mod Networks
 pub mod Dated

@@ -1,6 +1,7 @@
 -- A run of the program as a daemon's life.
 use Rattle.std.specs.Prelude.{◌≡◌, ◌≢◌, ◌≤◌, ◌⊎◌, ℕ, List, [], ◌∷◌, ◌++◌, Option, None, Some, filter_map, length}
-use Rattle.ripngd_runs.specs.Below.{AllByRecursion, Order, control_text, Command, outside_before, Machine, all_joined, Seen, Shows, Act, Start, Listen, Tick, Reconfigure, Shutdown, LinkDown, LinkUp, Ask, Refuse, Deed, Lives, in_force, traces_of, Config, NamesInterface}
+use Rattle.ripngd_runs.specs.Below.{AllByRecursion, Order, control_text, Command, outside_before, Machine, all_joined, Seen, Shows, Act, Start, Listen, Tick, Reconfigure, Shutdown, LinkDown, LinkUp, Ask, Refuse, Deed, Does, Lives, in_force, traces_of, Config, NamesInterface}
+use Rattle.ripngd_runs.specs.Questions.{AsksRightly, waits_for_nothing}
 use Rattle.ripngd_control.specs.declared.command.Command.TheVariants as commands
 
 -- ---- what clients order
@@ -41,7 +42,8 @@ AreActsForLines config (line ∷ lines) acts =
 -- ---- a run
 
 -- these deeds are the life of a run: a start with the configuration in force, and no other; they lead to what it is now, and the
--- outside gained just what they did. Those that clients ordered are what their lines say
+-- outside gained just what they did. Those that clients ordered are what their lines say. It asked its neighbors by itself only after a
+-- loss, and on each link at most once in a second
 pub record IsLife (config : Config) (before : Option Machine) (order : Order) (lines : List (List ℕ)) (deeds : List Deed) (now : Seen) : Type 0 where
   pub first : Deed
   pub later : List Deed
@@ -51,3 +53,5 @@ pub record IsLife (config : Config) (before : Option Machine) (order : Order) (l
   pub lives : Lives config before deeds (Some now.machine)
   pub shows : Shows (outside_before order) (all_joined (traces_of deeds)) now.outside
   pub ordered : AreActsForLines (in_force config before) lines (ordered_acts deeds)
+  pub asks : (iface : ℕ) → (begun : Machine) × Does config before first.act first.trace begun
+      × AsksRightly iface config waits_for_nothing begun later now.machine

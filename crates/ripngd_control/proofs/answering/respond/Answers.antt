@@ -1,5 +1,5 @@
 use Rattle.std.proofs.Common.{rules}
-use Rattle.ripngd_control.proofs.Answered.{answers_counts, answers_neighbors, answers_status, was_ok}
+use Rattle.ripngd_control.proofs.Answered.{answers_counts, answers_neighbors, answers_status, answers_status_json, was_ok}
 use Rattle.ripngd_control.proofs.answering.respond.Goals as goal
 
 pub returns-in-Some-Counts-clause-answers : goal.returns-in-Some-Counts-clause-answers
@@ -18,3 +18,9 @@ returns-in-Some-Status-clause-answers g c =
     let text = rw (c.router.ensures, c.fib-in-Some-Status.ensures.value) at c.write_status-written.ensures in
     answers_status _ _ _ _ _ _ _ _ (search rules)
     (λ well. let done = c.all_of-in-Some-Status.ensures well in (done.0, was_ok c.write_status-written.result done.1 text))
+
+pub returns-in-Some-StatusJson-clause-answers : goal.returns-in-Some-StatusJson-clause-answers
+returns-in-Some-StatusJson-clause-answers g c =
+    answers_status_json _ _ _ _ _ _ _ _ (search rules) c.router-in-Some-StatusJson.result.now c.fib-in-Some-StatusJson.result.now
+    c.router-in-Some-StatusJson.ensures c.fib-in-Some-StatusJson.ensures.value
+    (λ well. let done = c.all_of-in-Some-StatusJson.ensures well in (done.0, was_ok c.write_status_json-written.result done.1 c.write_status_json-written.ensures))

@@ -13,5 +13,5 @@ pub returns : goal.returns
 returns g c =
     let all = rw (take_all_numbered c.interfaces-interfaces.result.now c.loop-number.number-counter c.loop-number-test.false) at c.loop-number.invariant in
     let first = rw (c.interfaces-interfaces.ensures.value, c.config.ensures) at all in
-    let second = rw (c.ms-now.ensures.value, c.last.ensures, c.len-routes.ensures, c.counts-counts.ensures, c.neighbors-neighbors.ensures) at c.writeln-2.ensures.bytes in
-    appended c.writeln-2.result _ _ _ _ _ first second
+    let sums = Appends-trans _ _ _ _ _ first c.in_ok-write_sums.ensures in
+    appended c.write_asked.result _ _ _ _ _ sums (rw c.asked.ensures at c.write_asked.ensures)

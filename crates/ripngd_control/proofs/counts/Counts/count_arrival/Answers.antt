@@ -8,4 +8,5 @@ returns c = λ a bytes. record {
   sends = search rules;
   failed_sends = search rules;
   refusals = Refused-one _ _ _ c.count.ensures;
+  asked = search rules;
 }

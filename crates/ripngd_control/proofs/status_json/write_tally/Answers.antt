@@ -1,0 +1,7 @@
+use Rattle.ripngd_control.proofs.Jsons.{Grows-then}
+use Rattle.ripngd_control.proofs.status_json.write_tally.Goals as goal
+
+pub returns : goal.returns
+returns c =
+    Grows-then c.count.ensures (Grows-then c.count-2.ensures (Grows-then c.count-3.ensures (Grows-then c.token.ensures (Grows-then c.write_ago.ensures
+    (Grows-then c.token-2.ensures (Grows-then c.write_refused.ensures c.token-3.ensures))))))
