@@ -1,5 +1,4 @@
 -- What lines make happen, just as they mean.
-use Rattle.std.specs.Prelude.{⊤}
 use Rattle.std.proofs.Common.{◌≡◌, ◌⊎◌, inl, inr, ℕ, Bool, List, [], ◌∷◌, ◌++◌, ap, length, Option, Some, None, Result, Ok, Err, OnOk, refl, sym, subst}
 use Rattle.router_core.specs.declared.answer.Answer.{Answer}
 use Rattle.router_core.specs.Received.{Received}
@@ -11,15 +10,14 @@ use Rattle.ripng_world.specs.World.{Event, Stranger}
 use Rattle.ripng_world.proofs.Watched.{given_told}
 use Rattle.ripngd_lab.specs.Asides.{Aside, Prints, CountsPhases, Lie}
 use Rattle.ripngd_lab.specs.Doing.{arrival_by, EndsIn, EndsInPhases, HasDone, IsEvent, IsLie, IsNote, MeansAct, MeansVerb, Means}
-use Rattle.ripngd_lab.specs.ScriptWatching.{Telling, Starts, Does, Notes, Counts, Deceives, StartsAt, HasTold, IsToldOfLab}
+use Rattle.ripngd_lab.specs.ScriptWatching.{Telling, Starts, Does, Notes, Counts, Deceives, StartsAt, IsToldOfLab}
 use Rattle.ripngd_lab.specs.declared.forms.Action.{Action}
 use Rattle.ripngd_lab.specs.declared.forms.Action.TheVariants as action
 use Rattle.ripngd_lab.specs.declared.forms.Verb.{Verb}
-use Rattle.ripngd_lab.specs.Scripts.{awaited_by}
+use Rattle.ripngd_lab.specs.Scripts.{asks_by, awaited_by}
 use Rattle.ripngd_lab.specs.declared.forms.Verb.TheVariants as verb
 use Rattle.ripngd_lab.specs.declared.line.Line.{Line}
 use Rattle.ripngd_lab.specs.declared.stop.RefusalName.{RefusalName}
-use Rattle.ripngd_lab.specs.declared.stop.Stop.{Stop}
 use Rattle.ripngd_lab.proofs.ScriptWatching.{all_on}
 
 -- an error has done nothing that is said
@@ -42,6 +40,19 @@ pub awaits_listed : (v : Verb) (refusal before after : Option RefusalName) → I
 awaits_listed v refusal before after (inl is) same = awaits_as v (verb.Router is.0) refusal before after is.1 same
 awaits_listed v refusal before after (inr (inl is)) same = awaits_as v verb.Interface refusal before after is same
 awaits_listed v refusal before after (inr (inr is)) same = awaits_as v verb.Prefixes refusal before after is same
+
+-- the same of whether routers ask
+pub asks_as : (v w : Verb) (before after : Bool) → v ≡ w → after ≡ asks_by w before → after ≡ asks_by v before
+asks_as v w before after is asks = subst (λ (x : Verb). after ≡ asks_by x before) (sym is) asks
+
+pub asks_listed : (v : Verb) (before after : Bool) → IsListing v → after ≡ before → after ≡ asks_by v before
+asks_listed v before after (inl is) same = asks_as v (verb.Router is.0) before after is.1 same
+asks_listed v before after (inr (inl is)) same = asks_as v verb.Interface before after is same
+asks_listed v before after (inr (inr is)) same = asks_as v verb.Prefixes before after is same
+
+pub asked_as : {X E : Type 0} (r : Result X E) (v : Verb) (asks before after : Bool) → v ≡ verb.Asking asks → OnOk r (after ≡ asks) → OnOk r (after ≡ asks_by v before)
+asked_as (Ok x) v asks before after is now = asks_as v (verb.Asking asks) before after is now
+asked_as (Err e) v asks before after is now = tt
 
 module _ {V : Type 0} (st : V → LabValue → ℕ → V → Type 0) (t f : V → Told → V → Type 0) (n : V → Aside → V → Type 0) where
   -- nothing is done

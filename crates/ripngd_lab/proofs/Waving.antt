@@ -1,12 +1,13 @@
 -- Waves: what happens in turn, first ticks and then deliveries.
-use Rattle.std.proofs.Common.{◌≡◌, ◌⊎◌, ◌∙◌, inl, inr, All, ℕ, Bool, true, false, List, [], ◌∷◌, ◌++◌, map, append-nil, append_assoc, ap, refl, sym, subst, is_some, Option, None, Some, Result, Ok, Err, IfOk, OnOk}
+use Rattle.std.proofs.Common.{◌≡◌, ◌∙◌, inl, inr, All, ℕ, Bool, true, false, List, [], ◌∷◌, ◌++◌, map, append-nil, append_assoc, ap, refl, sym, subst, is_some, Option, None, Some, Result, Ok, Err, OnOk}
 use Rattle.std.proofs.lemmas.List.Elements.{All-append, All-nil}
 use Rattle.router_core.specs.Received.{Received}
 use Rattle.ripng_world.specs.Labs.{LabValue}
 use Rattle.ripng_world.specs.Watching.{Told}
-use Rattle.ripng_world.specs.World.{Event}
+use Rattle.ripng_world.specs.World.{Event, LinkUp}
 use Rattle.ripngd_lab.specs.Asides.{Aside}
-use Rattle.ripngd_lab.specs.Doing.{AreAtEach, HasDone, InTurn, IsAtEach, IsBrought, IsDelivery, IsEvent, IsLie, IsPlayed, IsWave}
+use Rattle.ripngd_lab.specs.Asking.{AskAfter, IsQuestion}
+use Rattle.ripngd_lab.specs.Doing.{AreAtEach, HasDone, InTurn, IsAtEach, IsBrought, IsDelivery, IsEvent, IsLie, IsNote, IsPlayed, IsWave}
 use Rattle.ripngd_lab.specs.Plans.{ticks_by, ticks_of}
 use Rattle.ripngd_lab.specs.ScriptWatching.{Telling}
 use Rattle.ripngd_lab.specs.declared.forms.Step.{Step}
@@ -114,3 +115,30 @@ module _ {V : Type 0} (st : V → LabValue → ℕ → V → Type 0) (t f : V �
   wave_done r means wave ticking now outages s s' is at leads done =
       done_as r (λ ts. (routers : ℕ) × IsWave (ticks_of wave outages routers) wave.moment ts) means s s'
       (λ ts w. leads ts w.0 (wave_as (ticks_of wave outages w.0) (ticks_by ticking now outages w.0) wave.moment now ts (ticks_are wave ticking now outages w.0 is at) at w.1)) done
+
+  -- a router asks: it is noted why, and then it sends its Requests
+  pub question_done : {X E : Type 0} (r : Result X E) (router now : ℕ) (ifaces : List ℕ) (events : List Event) (s mid s' : Option LabValue × V) → events ≡ map (λ iface. LinkUp router now iface) ifaces
+      → HasDone IsNote st t n s mid → OnOk r (HasDone (InTurn (IsPlayed false) events) st t n mid s') → OnOk r (HasDone (IsQuestion router) st t n s s')
+  question_done (Ok x) router now ifaces events s mid s' are note done = (
+    note.0 ++ done.0,
+    (now, ifaces, done.0, subst (λ (es : List Event). InTurn IsEvent es done.0) are done.1, ap (λ (us : List Telling). us ++ done.0) note.1),
+    all_on st t f n note.0 done.0 s mid s' note.2 done.2,
+  )
+  question_done (Err e) router now ifaces events s mid s' are note done = tt
+
+  -- no router asks
+  pub none_ask : (s : Option LabValue × V) → HasDone (AskAfter true) st t n s s
+  none_ask s = ([], ([], refl), refl)
+
+  -- one router asks
+  pub one_asks : {X E : Type 0} (r : Result X E) (router : ℕ) (s s' : Option LabValue × V) → OnOk r (HasDone (IsQuestion router) st t n s s') → OnOk r (HasDone (AskAfter true) st t n s s')
+  one_asks (Ok x) router s s' own = (own.0, (router ∷ [], one_turn IsQuestion router own.0 own.1), own.2)
+  one_asks (Err e) router s s' own = tt
+
+  -- some ask, and then others
+  pub asks_on : (s mid s' : Option LabValue × V) → HasDone (AskAfter true) st t n s mid → HasDone (AskAfter true) st t n mid s' → HasDone (AskAfter true) st t n s s'
+  asks_on s mid s' first rest = (
+    first.0 ++ rest.0,
+    (first.1.0 ++ rest.1.0, turns_on IsQuestion first.1.0 rest.1.0 first.0 rest.0 first.1.1 rest.1.1),
+    all_on st t f n first.0 rest.0 s mid s' first.2 rest.2,
+  )

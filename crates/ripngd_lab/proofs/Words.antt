@@ -1,13 +1,13 @@
 -- Words of lines and of forms.
-use Rattle.std.proofs.Common.{◌≡◌, ◌<◌, [], zero, suc, map, ◌≤◌, ◌∙◌, ◌++◌, ◌∷◌, ◌⊎◌, inl, inr, ℕ, Bool, true, List, Option, None, Some, ap, arith, get_or, le_of_eq, length, option_map, refl, slice_get, subst, sym, take, take_all, unwrap_or, Bor}
+use Rattle.std.proofs.Common.{◌≡◌, ◌<◌, [], zero, suc, map, ◌≤◌, ◌∙◌, ◌++◌, ◌∷◌, ◌⊎◌, inl, inr, ℕ, true, List, Option, None, Some, ap, arith, get_or, le_of_eq, length, option_map, refl, slice_get, subst, sym, take, take_all, unwrap_or, Bor}
 use Rattle.std.specs.Char.{is_ascii_whitespace}
-use Rattle.std.specs.List.{position_or_len, slice_index}
+use Rattle.std.specs.List.{slice_index}
 use Rattle.std.specs.Str.{IsTrimAsciiEnd, IsTrimAsciiStart}
 use Rattle.std.proofs.lemmas.Bool.{cases_lt}
 use Rattle.std.proofs.lemmas.List.{get_or_append_left, get_or-append-add, take-append-le}
 use Rattle.std.proofs.lemmas.Option.{slice_get-get_or}
 use Rattle.std.proofs.lemmas.Str.Pattern.{IsSplitOnceResult, split_once_first}
-use Rattle.ripngd_lab.specs.Scripts.{HasWords, IsCutAt, first_word}
+use Rattle.ripngd_lab.specs.Scripts.{HasWords, first_word}
 
 -- what stands before the first space, or all
 pub first_is : (text : List ℕ) (r : Option (Bor (List ℕ) × Bor (List ℕ))) (d : Bor (List ℕ) × Bor (List ℕ)) → d.0.now ≡ text → IsSplitOnceResult 32 text r

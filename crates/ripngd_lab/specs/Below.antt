@@ -3,6 +3,9 @@ pub use Rattle.std.specs.List.{list_any, range_with_len, AllByRecursion}
 pub use Rattle.std.specs.Option.{option_map_or}
 pub use Rattle.std.specs.declared.io.Error.{Error}
 pub use Rattle.prefix6.specs.Prefix.{Prefix6}
+pub use Rattle.route_table.specs.Route.{RouteValue, is_own}
+pub use Rattle.route_table.specs.Table.{Table}
+pub use Rattle.router_core.specs.Adoption.{is_reachable}
 pub use Rattle.router_core.specs.Machine.{State}
 pub use Rattle.router_core.specs.Received.{Received}
 pub use Rattle.router_core.specs.declared.answer.Answer.{Answer}
@@ -12,9 +15,10 @@ pub use Rattle.ripng_world.specs.AskedRounds.{is_other}
 pub use Rattle.ripng_world.specs.Events.{event_of}
 pub use Rattle.ripng_world.specs.Labs.{LabValue, link_at}
 pub use Rattle.ripng_world.specs.Lying.{Lies}
+pub use Rattle.ripng_world.specs.Network.{Network}
 pub use Rattle.ripng_world.specs.Rounds.{router_of}
 pub use Rattle.ripng_world.specs.Watching.{Told, telling}
-pub use Rattle.ripng_world.specs.World.{Event, Tick, Stranger, Happens, IsCold, Deliver}
+pub use Rattle.ripng_world.specs.World.{Event, Tick, Stranger, Happens, IsCold, Deliver, LinkUp}
 pub use Rattle.ripng_world.specs.declared.event.LabError.TheVariants.{NoSuchRouter}
 pub use Rattle.ripng_world.specs.declared.path.PathEnd.{PathEnd}
 pub use Rattle.ripng_world.specs.declared.path.PathEnd.TheVariants.{Delivered, Loops}

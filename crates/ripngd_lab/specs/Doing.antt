@@ -1,5 +1,5 @@
 -- What a line of a script makes happen, by what it does and by the parts that it names: as notifications of the script's observer.
-use Rattle.std.specs.Prelude.{◌≡◌, ◌⊎◌, All, ℕ, Bool, true, false, List, [], ◌∷◌, ◌++◌, map, Option, Some, None}
+use Rattle.std.specs.Prelude.{◌≡◌, ◌⊎◌, All, ℕ, Bool, true, false, List, [], ◌∷◌, ◌++◌, map, Option}
 use Rattle.ripngd_lab.specs.Below.{Answer, LabValue, Told, Event, Deliver, Stranger, Tick, Received, Outages}
 use Rattle.ripng_world.specs.Below.{Cost, Own, Disown}
 use Rattle.ripng_world.specs.World.{Restart, Shutdown, LinkDown, LinkUp, Reconfigure}
@@ -122,7 +122,7 @@ MeansAct action.Round line ts = IsRound line.now ts
 MeansAct action.Rounds line ts = EndsIn Notes ts
 MeansAct action.Phases line ts = EndsInPhases line.count ts
 
--- what a line does: of a part of a network, and of a refusal that is awaited, nothing is said; at `cold` all routers start at the line's
+-- what a line does: of a part of a network, of a refusal that is awaited, and of whether routers ask, nothing is said; at `cold` all routers start at the line's
 -- moment; a forged Response comes, or another horizon is noted; or it does something with a network that runs
 abbrev pub MeansVerb : Verb → Line → List Telling → Type 0
 MeansVerb (verb.Router quiet) line ts = ts ≡ []
@@ -132,6 +132,7 @@ MeansVerb verb.Start line ts = ts ≡ Starts line.now ∷ []
 MeansVerb verb.Forge line ts = (bytes : List ℕ) × IsLie line.router (arrival_by line bytes) ts
 MeansVerb verb.Bend line ts = IsNote ts
 MeansVerb verb.Await line ts = ts ≡ []
+MeansVerb (verb.Asking asks) line ts = ts ≡ []
 MeansVerb (verb.Act does) line ts = MeansAct does line ts
 
 -- what a line does, as it says

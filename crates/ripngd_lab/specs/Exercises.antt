@@ -1,8 +1,8 @@
 -- Whether a script solves an exercise: a script in which a word `?` leaves one word free, and which leaves its events open if it has none.
-use Rattle.std.specs.Prelude.{◌≡◌, ◌≢◌, ◌<◌, ◌⊎◌, ℕ, Bool, true, false, not, List, Some, codes, filter, length, slice_get, take, All, HoldsAt}
+use Rattle.std.specs.Prelude.{◌≡◌, ◌≢◌, ◌<◌, ◌⊎◌, ◌&&◌, ℕ, Bool, true, false, not, List, Option, None, Some, codes, filter, length, nat_lt, slice_get, take, All, HoldsAt}
 use Rattle.std.specs.List.{AllZip}
 use Rattle.ripngd_lab.specs.declared.exercise.Role.{Role}
-use Rattle.ripngd_lab.specs.declared.exercise.Role.TheVariants.{Start, Event, Look}
+use Rattle.ripngd_lab.specs.declared.exercise.Role.TheVariants.{Start, Event, Expectation, Look}
 use Rattle.ripngd_lab.specs.declared.exercise.Statement.{Statement}
 use Rattle.ripngd_lab.specs.declared.exercise.Unlike.{Unlike}
 use Rattle.ripngd_lab.specs.declared.exercise.Unlike.TheVariants.{OtherLine, MissingLine, AddedLine, NoStart, NoEvent}
@@ -63,3 +63,16 @@ abbrev pub IsUnlike : List Statement → List Statement → Unlike → Type 0
 IsUnlike exercise solution NoStart = LacksRole solution Start
 IsUnlike exercise solution NoEvent = LacksRole solution Event
 IsUnlike exercise solution why = (free : Bool) × LeavesEvents exercise free × Departs (counted free exercise) (counted free solution) why
+
+-- a script that ends at the line of a number, or after its last line, has done the line of this one
+abbrev pub is_done : Option ℕ → ℕ → Bool
+is_done None number = true
+is_done (Some end) number = nat_lt number end
+
+abbrev pub is_expectation : Role → Bool
+is_expectation Expectation = true
+is_expectation _ = false
+
+-- a line is an expectation that is met
+abbrev pub is_met : Option ℕ → Statement → Bool
+is_met end line = is_expectation line.role && is_done end line.number

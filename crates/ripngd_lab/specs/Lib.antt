@@ -1,4 +1,5 @@
 pub mod Asides
+pub mod Asking
 pub mod Below
 pub mod Common
 pub mod Doing

@@ -4,12 +4,14 @@ use Rattle.std.specs.List.{before_first, enumerate_from, slice_split, starts_wit
 use Rattle.std.specs.Char.{is_ascii_whitespace}
 use Rattle.std.specs.Str.{IsTrimAsciiStart}
 use Rattle.ripngd_lab.specs.Asides.{Aside, Prints}
+use Rattle.ripngd_lab.specs.Asking.{AskAfter}
 use Rattle.ripngd_lab.specs.Doing.{Means}
 use Rattle.ripngd_lab.specs.ScriptWatching.{Telling, Notes, Turns}
 use Rattle.ripngd_lab.specs.declared.forms.TheConstants.{FORMS}
 use Rattle.ripngd_lab.specs.declared.forms.Verb.{Verb}
 use Rattle.ripngd_lab.specs.declared.forms.Verb.TheVariants as verb
 use Rattle.ripngd_lab.specs.declared.line.Line.{Line}
+use Rattle.ripngd_lab.specs.declared.script.Session.{Session}
 use Rattle.ripngd_lab.specs.declared.stop.RefusalName.{RefusalName}
 
 -- the lines of a script: its bytes, cut at each line feed (10)
@@ -46,26 +48,49 @@ abbrev pub awaited_by : Verb → Option RefusalName → Option RefusalName → O
 awaited_by verb.Await refusal before = refusal
 awaited_by _ refusal before = before
 
+-- whether routers ask by themselves after a line
+abbrev pub asks_by : Verb → Bool → Bool
+asks_by (verb.Asking asks) before = asks
+asks_by _ before = before
+
 -- a line of these words is done: it has a form that begins with the first of them, and what it means happens
-abbrev pub IsObeyed : List ℕ → Option RefusalName → List Telling → Option RefusalName → Type 0
-IsObeyed words awaited ts awaits = (line : Line) × IsVerbOf line.verb words × Means line ts × (awaits ≡ awaited_by line.verb line.refusal awaited)
+abbrev pub IsObeyed : List ℕ → Option RefusalName → Bool → List Telling → Option RefusalName → Bool → Type 0
+IsObeyed words awaited asked ts awaits asks =
+    (line : Line) × IsVerbOf line.verb words × Means line ts × (awaits ≡ awaited_by line.verb line.refusal awaited) × (asks ≡ asks_by line.verb asked)
+
+-- what a script keeps from one line to the next: whether a refusal is awaited, and whether routers ask by themselves
+pub record Mode : Type 0 where
+  pub awaits : Bool
+  pub asks : Bool
+
+abbrev pub mode_of : Session → Mode
+mode_of s = record { awaits = is_some s.awaited; asks = is_some s.askers }
 
 -- the same of a line as its bytes are
-abbrev pub IsDone : List ℕ → List Telling → Bool → Type 0
-IsDone line ts awaits = (words : List ℕ) × HasWords line words × (after : Option RefusalName) × IsObeyed words None ts after × (awaits ≡ is_some after)
+abbrev pub IsDone : Bool → List ℕ → List Telling → Mode → Type 0
+IsDone asked line ts mode = (words : List ℕ) × HasWords line words × (after : Option RefusalName) × IsObeyed words None asked ts after mode.asks × (mode.awaits ≡ is_some after)
 
--- a line makes these things happen, and leaves a refusal awaited or not: it says nothing, and nothing happens; its words do what they
--- mean; or its refusal was awaited, and it is refused, after some of what it means
-abbrev pub Says : Bool → List ℕ → List Telling → Bool → Type 0
-Says awaited line ts awaits =
-    (IsBlank line × (ts ≡ []) × (awaits ≡ awaited))
-    ⊎ (((awaited ≡ false) × IsDone line ts awaits) ⊎ ((awaited ≡ true) × (awaits ≡ false)))
+-- a line with words is followed: they do what they mean; or its refusal was awaited, and it is refused, after some of what it means
+abbrev pub IsFollowed : Mode → List ℕ → List Telling → Mode → Type 0
+IsFollowed mode line ts mode' =
+    ((mode.awaits ≡ false) × IsDone mode.asks line ts mode') ⊎ ((mode.awaits ≡ true) × (mode' ≡ record mode { awaits = false }))
+
+-- a line makes these things happen, and leaves the script in a mode: it says nothing, and nothing happens; or it is followed, and then
+-- routers ask, if they do so by themselves
+abbrev pub Says : Mode → List ℕ → List Telling → Mode → Type 0
+Says mode line ts mode' =
+    (IsBlank line × (ts ≡ []) × (mode' ≡ mode))
+    ⊎ ((own : List Telling) × (rest : List Telling) × IsFollowed mode line own mode' × AskAfter mode'.asks rest × (ts ≡ own ++ rest))
 
 -- so do these lines, each with its place among all, one after another: first each is announced, with its number, from 1
-abbrev pub AreSaid : Bool → List (ℕ × List ℕ) → List Telling → Bool → Type 0
-AreSaid awaited [] ts awaits = (ts ≡ []) × (awaits ≡ awaited)
-AreSaid awaited (line ∷ lines) ts awaits =
-    (mid : Bool) × (own : List Telling) × (rest : List Telling) × Says awaited line.1 own mid × AreSaid mid lines rest awaits × (ts ≡ Turns (line.0 + 1) ∷ own ++ rest)
+abbrev pub AreSaid : Mode → List (ℕ × List ℕ) → List Telling → Mode → Type 0
+AreSaid mode [] ts end = (ts ≡ []) × (end ≡ mode)
+AreSaid mode (line ∷ lines) ts end =
+    (mid : Mode) × (own : List Telling) × (rest : List Telling) × Says mode line.1 own mid × AreSaid mid lines rest end × (ts ≡ Turns (line.0 + 1) ∷ own ++ rest)
+
+-- at its begin no refusal is awaited, and no router asks by itself
+abbrev pub at_begin : Mode
+at_begin = record { awaits = false; asks = false }
 
 -- the lines of a script, each with its place, from 0
 abbrev pub numbered : List ℕ → List (ℕ × List ℕ)
@@ -73,18 +98,18 @@ numbered script = enumerate_from 0 (lines_of script)
 
 -- every line of a script is done, no refusal is still awaited, and these things have happened, in the order of its lines
 abbrev pub IsDoneWhole : List ℕ → List Telling → Type 0
-IsDoneWhole script ts = AreSaid false (numbered script) ts false
+IsDoneWhole script ts = (end : Mode) × AreSaid at_begin (numbered script) ts end × (end.awaits ≡ false)
 
 -- a script ends at a line that is refused, or expects what is not so: all lines before it are done, and then, after some of what that
 -- line means, it is noted why
 abbrev pub IsEnded : List ℕ → List Telling → Type 0
 IsEnded script ts =
-    (place : ℕ) × (place < length (lines_of script)) × (before own : List Telling) × (awaits : Bool) × AreSaid false (take place (numbered script)) before awaits
+    (place : ℕ) × (place < length (lines_of script)) × (before own : List Telling) × (mode : Mode) × AreSaid at_begin (take place (numbered script)) before mode
     × (ts ≡ before ++ Turns (place + 1) ∷ own ++ Notes ∷ [])
 
 -- every line is done, and a refusal is still awaited, which is noted
 abbrev pub IsLeftAwaiting : List ℕ → List Telling → Type 0
-IsLeftAwaiting script ts = (before : List Telling) × AreSaid false (numbered script) before true × (ts ≡ before ++ Notes ∷ [])
+IsLeftAwaiting script ts = (before : List Telling) × (end : Mode) × AreSaid at_begin (numbered script) before end × (end.awaits ≡ true) × (ts ≡ before ++ Notes ∷ [])
 
 -- what a script makes happen, and whether every line was done, the last one too
 abbrev pub IsOfScript : List ℕ → Bool → List Telling → Type 0

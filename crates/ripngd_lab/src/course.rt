@@ -1,10 +1,10 @@
 //! A network that runs, and what lines do with it.
 
 ghost use Rattle.std.specs.Prelude.{◌≡◌, ◌<◌, ◌++◌, ◌∷◌, [], IfErr, IfOk, IfSome, OnOk, Some, length, map};
-ghost use Rattle.ripngd_lab.specs.Common.{AreAtEach, EndsIn, IsAtEach, Notes, Prints, aside_of, with_member, HasDone, HasTold, IsNote, MeansAct, HappensGiving, WatchedInPart, event_of, failures, value_of};
+ghost use Rattle.ripngd_lab.specs.Common.{AreAtEach, EndsIn, down_after, IsAtEach, Notes, Prints, aside_of, with_member, HasDone, HasTold, IsNote, MeansAct, HappensGiving, WatchedInPart, event_of, failures, value_of};
 
 use crate::forms::{Action, Step};
-use crate::plan::{Outages, Ticking, set_member};
+use crate::plan::{Outages, Ticking, count_interfaces, set_member};
 use crate::{Expected, Horizon, Line, Notice, Outcome, Refusal, Stop, Unmet, Watch, Way, meet};
 use prefix6::Prefix;
 use ripng_world::{Event, Lab, LabError, Observer, Running, Stopped};
@@ -91,6 +91,7 @@ impl Course {
             outages: Outages {
                 silent: Vec::new(alloc),
                 cut: Vec::new(alloc),
+                down: Vec::new(alloc),
                 lost: Vec::new(alloc),
             },
             horizons: Vec::new(alloc),
@@ -141,7 +142,7 @@ impl Course {
     }
 
     /// The observer is notified of what a line did, beside events and phases.
-    fn tell<V: Watch>(&self, notice: Notice<'_>, watch: &mut V) -> Outcome
+    pub fn tell<V: Watch>(&self, notice: Notice<'_>, watch: &mut V) -> Outcome
         requires { aside_of notice ≡ Prints }
         ensures done { OnOk result (HasDone (IsNote) V.starts V.takes V.notes (Some (value_of self.now.site), watch.old) (Some (value_of self.now.site), watch.new)) }
         ensures told { HasTold result V.starts V.takes V.fails V.notes (Some (value_of self.now.site), watch.old) (Some (value_of self.now.site), watch.new) }
@@ -159,15 +160,18 @@ impl Course {
         self.play(&line.wave(Ticking::Nobody), None, &events, watch)
     }
 
-    /// A link is cut where it goes down, and mended where it comes up.
+    /// A link is down and cut where it goes down, and mended where it comes up.
     fn mark_link(&mut self, kind: Step, link: usize) -> Result<(), AllocError>
-        ensures { self.new.site ≡ self.old.site }
+        ensures site { self.new.site ≡ self.old.site }
+        ensures down { OnOk result (self.new.outages.down.items ≡ down_after kind link self.old.outages.down.items) }
     {
-        match kind {
-            Step::Down => set_member(&mut self.outages.cut, link, true),
-            Step::Up => set_member(&mut self.outages.cut, link, false),
-            _ => Ok(()),
-        }
+        let down = match kind {
+            Step::Down => true,
+            Step::Up => false,
+            _ => return Ok(()),
+        };
+        set_member(&mut self.outages.down, link, down)?;
+        set_member(&mut self.outages.cut, link, down)
     }
 
     /// Rounds are made, and what they sent is passed by.
@@ -300,10 +304,7 @@ impl Course {
         let lab = self.site.running();
         let mut places = Vec::new(self.alloc);
         for router in 0..lab.routers() {
-            let count = lab
-                .router(router)
-                .map_or(0, |at| at.config().interfaces().len());
-            let interfaces = (0..count).map(|iface| (router, iface));
+            let interfaces = (0..count_interfaces(lab, router)).map(|iface| (router, iface));
             places.extend(interfaces.filter(|&(router, iface)| lab.link(router, iface)
                 == Some(link)))?;
         }

@@ -19,6 +19,8 @@ pub enum Verb {
     Bend,
     /// The next line is to be refused.
     Await,
+    /// Routers ask by themselves from now on, or no longer.
+    Asking(bool),
     /// It is about a network that runs.
     Act(Action),
 }
@@ -67,7 +69,7 @@ pub enum Step {
 
 /// The forms. A word in capitals is a part, and K at the end is one word or more. If a line leaves several forms at the same word, the
 /// first is the one that a hint names.
-pub const FORMS: [(&str, Verb); 49] = [
+pub const FORMS: [(&str, Verb); 51] = [
     ("router NAME", Verb::Router(false)),
     ("router quiet NAME", Verb::Router(true)),
     ("router quiet", Verb::Router(true)),
@@ -102,6 +104,8 @@ pub const FORMS: [(&str, Verb); 49] = [
     ("rounds ROUNDS NOW GAP", Verb::Act(Action::Rounds)),
     ("phases PHASES SEED", Verb::Act(Action::Phases)),
     ("horizon R HORIZON", Verb::Bend),
+    ("asking off", Verb::Asking(false)),
+    ("asking", Verb::Asking(true)),
     ("silent R", Verb::Act(Action::Silent(true))),
     ("speaks R", Verb::Act(Action::Silent(false))),
     ("cut LINK", Verb::Act(Action::Cut(true))),

@@ -48,6 +48,9 @@ impl Advert {
     pub fn all_from(course: &Course, first: usize) -> Result<Vec<Advert>, AllocError> {
         let (alloc, lab) = (course.alloc, course.site.running());
         let mut adverts = Vec::new(alloc);
+        if course.horizons.is_empty() {
+            return Ok(adverts);
+        }
         for (datagram, sent) in lab.sent().iter().enumerate().skip(first) {
             let router = sent.router;
             if let Some((_, horizon)) = course.horizons.iter().find(|(other, _)| *other == router)

@@ -1,6 +1,7 @@
 //! Scripts of a laboratory: whole networks of routers, and what happens in them, as lines of text.
 #![tactic(auto)]
 
+mod asking;
 mod context;
 mod course;
 mod exercise;
@@ -11,11 +12,13 @@ mod horizon;
 mod line;
 mod marking;
 mod moving;
+mod pace;
 mod plan;
 mod printer;
 mod script;
 mod stop;
 
+use asking::Asker;
 use context::Context;
 use course::{Course, Site};
 pub use course::{Network, Routes};
@@ -27,6 +30,7 @@ pub use horizon::Horizon;
 use line::Line;
 pub use marking::lab_marked;
 pub use moving::MadePhases;
+pub use pace::Loss;
 use plan::Outages;
 pub use plan::addr_at;
 pub use printer::{Ending, Named, Names, Notice, Printer, Watch, names_of, print_unmet};

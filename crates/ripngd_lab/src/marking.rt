@@ -1,5 +1,8 @@
 //! Marks a script: whether it solves an exercise, and how many expectations it meets.
 
+ghost use Rattle.std.specs.Prelude.{◌≡◌, filter, length};
+ghost use Rattle.ripngd_lab.specs.Exercises.{is_done, is_met};
+
 use crate::exercise::{Role, Statement, Unlike, against};
 use crate::forms::first_word;
 use crate::hints::ended_at;
@@ -116,11 +119,29 @@ fn role_of(word: &str, awaited: bool) -> Role {
     }
 }
 
+/// Whether a script that ends at the line of that number, or after its last line, has done the line of this one.
+fn is_done(number: usize, end: Option<usize>) -> bool
+    ensures { result ≡ is_done end number }
+{
+    match end {
+        Some(end) => number < end,
+        None => true,
+    }
+}
+
+/// Whether a line is an expectation that is met: the script has done it.
+fn is_met(line: &Statement<'_>, end: Option<usize>) -> bool
+    ensures { result ≡ is_met end line.now }
+{
+    match line.role {
+        Role::Expectation => is_done(line.number, end),
+        _ => false,
+    }
+}
+
 /// How many expectations of a script are met that ends at the line of that number, or after its last line.
-fn count_met(statements: &[Statement<'_>], end: Option<usize>) -> usize {
-    statements
-        .iter()
-        .take_while(|line| end.is_none_or(|end| line.number < end))
-        .filter(|line| line.role == Role::Expectation)
-        .count()
+fn count_met(statements: &[Statement<'_>], end: Option<usize>) -> usize
+    ensures { result ≡ length (filter (is_met end) statements.now) }
+{
+    statements.iter().filter(|&line| is_met(line, end)).count()
 }

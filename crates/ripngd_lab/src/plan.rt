@@ -3,7 +3,7 @@
 //! would do, and refuse `phases`. They hold back no event of one datagram or of one router. A lost datagram arrives nowhere.
 
 ghost use Rattle.std.specs.Prelude.{◌≡◌, All, false, true, IfOk, IsFalse, IsTrue, OnErr, OnOk, map};
-ghost use Rattle.ripngd_lab.specs.Common.{event_of, IsDelivery, brings_lost, AllTakePart, addr_at, first_of, reaches, ticks_of, with_member};
+ghost use Rattle.ripngd_lab.specs.Common.{event_of, IsDelivery, brings_lost, AllTakePart, addr_at, interfaces_at, first_of, reaches, ticks_of, with_member};
 
 use crate::context::number;
 use crate::{Course, Network, Outcome, Refusal, Stop};
@@ -20,6 +20,8 @@ pub struct Outages {
     pub silent: Vec<usize>,
     /// Links that nothing crosses, by number.
     pub cut: Vec<usize>,
+    /// Those of them that went down, as their routers know.
+    pub down: Vec<usize>,
     /// Datagrams that are lost, by number.
     pub lost: Vec<usize>,
 }
@@ -186,4 +188,14 @@ pub fn addr_at<S: RouteStore>(lab: &Running<S>, router: usize, iface: usize) -> 
 {
     let interface = lab.router(router)?.config().interfaces().get(iface)?;
     Some(interface.addr)
+}
+
+/// How many interfaces a router of the network has.
+pub fn count_interfaces(lab: &Network, router: usize) -> usize
+    ensures { result ≡ interfaces_at lab.now router }
+{
+    match lab.router(router) {
+        Some(at) => at.config().interfaces().len(),
+        None => 0,
+    }
 }

@@ -8,7 +8,7 @@ use crate::expecting::FATES;
 use crate::forms::first_word;
 use crate::horizon::HORIZONS;
 use crate::script::words_in;
-use crate::{Horizon, MadePhases, Network, Obstacle, Refusal, Routes, Unmet, Way};
+use crate::{Horizon, Loss, MadePhases, Network, Obstacle, Refusal, Routes, Unmet, Way};
 use prefix6::Prefix;
 use ripng_world::{Event, PathEnd};
 use route_table::{Moment, Origin, Route, RouteStore};
@@ -29,7 +29,16 @@ pub enum Notice<'a> {
     /// `say`: its text.
     Said(&'a str),
     /// `horizon`: a router has another one from now on.
-    Horizon { router: usize, horizon: Horizon },
+    Horizon {
+        router: usize,
+        horizon: Horizon,
+    },
+    /// With `asking`: a router asks its neighbors at this time, since it has lost a route. Its Requests are the next events.
+    Asks {
+        router: usize,
+        now: Moment,
+        loss: Loss,
+    },
     /// `lose`: the datagram of this number is lost.
     Lost(usize),
     /// `rounds`: how many were made.
@@ -223,7 +232,7 @@ impl<'a, W: Write> Watch for Printer<'a, W> {
                 writeln!(self.out, "{router} horizon {name}: {words}")
             }
             Notice::Said(text) => writeln!(self.out, "{text}"),
-            Notice::Lost(_) | Notice::Rounds(_) | Notice::Lied(..) => Ok(()),
+            Notice::Asks { .. } | Notice::Lost(_) | Notice::Rounds(_) | Notice::Lied(..) => Ok(()),
             Notice::Phases(made) => writeln!(self.out, "{made}"),
             Notice::Refused(ending) => {
                 self.ending = Some(ending);

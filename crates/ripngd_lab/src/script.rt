@@ -1,8 +1,11 @@
 //! A script, line by line: its routers are listed until they start, and then live in a network.
 
 ghost use Rattle.std.specs.Prelude.{◌≡◌, ◌⊎◌, ◌∷◌, [], ℕ, IfOk, IsErrAnd, List, None, OnErr, false, OnOk, Option, is_some, map, true};
-ghost use Rattle.ripngd_lab.specs.Common.{Broken, EndsScript, LabValue, HasDone, HasTold, HasWords, IsBlank, has_failed, is_failure, IsNote, IsLie, IsObeyed, IsOfScript, IsToldOfLab, IsToldUntil, Means, IsVerbOf, Prints, Says, Starts, arrival_by, awaited_by, lab_in, lines_of};
+ghost use Rattle.ripngd_lab.specs.Common.{Broken, EndsScript, LabValue, HasDone, HasTold, HasWords, IsBlank, has_failed, is_failure, IsFollowed, IsNote, IsLie, IsObeyed, IsOfScript, IsToldOfLab, IsToldUntil, Means, IsVerbOf, Prints, Says, Starts, arrival_by, asks_by, awaited_by, lab_in, lines_of, mode_of};
 
+mod asks;
+
+use crate::asking::Asker;
 use crate::course::check_named;
 use crate::forms::Verb;
 use crate::line::read_line;
@@ -91,14 +94,23 @@ pub fn words_in(line: &[u8]) -> &str {
     words_of(str::from_utf8(line).unwrap_or(""))
 }
 
-/// Does what a line says. A line that has to be refused by a name (`refused NAME`) is done exactly if it is refused by that name.
+/// Does what a line says. Then routers that have lost a route ask, if they ask by themselves.
 fn run_line<V: Watch>(alloc: Global, session: &mut Session, line: &[u8], watch: &mut V) -> Outcome
-    ensures done { OnOk result (HasDone (λ ts. Says (is_some session.old.awaited) line.now ts (is_some session.new.awaited)) V.starts V.takes V.notes (lab_in session.old.course, watch.old) (lab_in session.new.course, watch.new)) }
+    ensures done { OnOk result (HasDone (λ ts. Says (mode_of session.old) line.now ts (mode_of session.new)) V.starts V.takes V.notes (lab_in session.old.course, watch.old) (lab_in session.new.course, watch.new)) }
     ensures told { HasTold result V.starts V.takes V.fails V.notes (lab_in session.old.course, watch.old) (lab_in session.new.course, watch.new) }
 {
     if is_blank(line) {
         return Ok(());
     }
+    do_line(alloc, session, line, watch)?;
+    session.ask(watch)
+}
+
+/// Does what a line with words says. A line that has to be refused by a name (`refused NAME`) is done exactly if it is refused by that name.
+fn do_line<V: Watch>(alloc: Global, session: &mut Session, line: &[u8], watch: &mut V) -> Outcome
+    ensures done { OnOk result (HasDone (λ ts. IsFollowed (mode_of session.old) line.now ts (mode_of session.new)) V.starts V.takes V.notes (lab_in session.old.course, watch.old) (lab_in session.new.course, watch.new)) }
+    ensures told { HasTold result V.starts V.takes V.fails V.notes (lab_in session.old.course, watch.old) (lab_in session.new.course, watch.new) }
+{
     let Ok(text) = str::from_utf8(line) else {
         return Err(Stop::from(BadLine::NoText));
     };
@@ -134,6 +146,8 @@ pub struct Session {
     course: Option<Course>,
     /// The name that the next line is to be refused by. It counts once.
     pub awaited: Option<RefusalName>,
+    /// What is kept of each router, if routers ask by themselves.
+    pub askers: Option<Vec<Asker>>,
 }
 
 impl Session {
@@ -141,12 +155,14 @@ impl Session {
     pub fn new(alloc: Global) -> Session
         ensures unstarted { lab_in result.course ≡ None }
         ensures unawaited { result.awaited ≡ None }
+        ensures unasked { is_some result.askers ≡ false }
     {
         Session {
             nodes: Vec::new(alloc),
             context: Context::new(alloc),
             course: None,
             awaited: None,
+            askers: None,
         }
     }
 
@@ -154,6 +170,7 @@ impl Session {
         ensures verb { IfOk result (λ line. IsVerbOf line.verb words.now) }
         ensures course { self.new.course ≡ self.old.course }
         ensures awaited { self.new.awaited ≡ self.old.awaited }
+        ensures askers { self.new.askers ≡ self.old.askers }
     {
         if let Some(course) = &self.course {
             self.context.sent = course.sent();
@@ -190,14 +207,16 @@ impl Session {
 
     /// Does what the words of the next line say.
     pub fn obey<V: Watch>(&mut self, alloc: Global, words: &str, watch: &mut V) -> Outcome
-        ensures done { OnOk result (HasDone (λ ts. IsObeyed words.now self.old.awaited ts self.new.awaited) V.starts V.takes V.notes (lab_in self.old.course, watch.old) (lab_in self.new.course, watch.new)) }
+        ensures done { OnOk result (HasDone (λ ts. IsObeyed words.now self.old.awaited (is_some self.old.askers) ts self.new.awaited (is_some self.new.askers)) V.starts V.takes V.notes (lab_in self.old.course, watch.old) (lab_in self.new.course, watch.new)) }
         ensures awaited { OnErr result (self.new.awaited ≡ self.old.awaited) }
+        ensures askers { OnErr result (is_some self.new.askers ≡ is_some self.old.askers) }
         ensures told { HasTold result V.starts V.takes V.fails V.notes (lab_in self.old.course, watch.old) (lab_in self.new.course, watch.new) }
     {
         let line = match self.read(words) {
             Ok(line) => line,
             Err(bad) => return Err(Stop::from(bad)),
         };
+        self.forget(alloc, &line);
         self.carry_out(alloc, &line, watch)
     }
 
@@ -205,7 +224,9 @@ impl Session {
     fn carry_out<V: Watch>(&mut self, alloc: Global, line: &Line<'_>, watch: &mut V) -> Outcome
         ensures done { OnOk result (HasDone (Means line.entry.now) V.starts V.takes V.notes (lab_in self.old.course, watch.old) (lab_in self.new.course, watch.new)) }
         ensures awaited { OnOk result (self.new.awaited ≡ awaited_by line.entry.now.verb line.entry.now.refusal self.old.awaited) }
+        ensures asks { OnOk result (is_some self.new.askers ≡ asks_by line.entry.now.verb (is_some self.old.askers)) }
         ensures err { OnErr result (self.new.awaited ≡ self.old.awaited) }
+        ensures err_asks { OnErr result (is_some self.new.askers ≡ is_some self.old.askers) }
         ensures told { HasTold result V.starts V.takes V.fails V.notes (lab_in self.old.course, watch.old) (lab_in self.new.course, watch.new) }
     {
         match line.verb {
@@ -218,6 +239,7 @@ impl Session {
                 self.awaited = line.refusal;
                 Ok(())
             }
+            Verb::Asking(asks) => self.set_asking(alloc, asks),
             Verb::Act(action) => {
                 let course = self.course.as_mut().ok_or(BadLine::BeforeStart)?;
                 course.act(action, line, watch)
@@ -228,6 +250,7 @@ impl Session {
     fn list(&mut self, alloc: Global, line: &Line<'_>) -> Outcome
         ensures course { self.new.course ≡ self.old.course }
         ensures awaited { self.new.awaited ≡ self.old.awaited }
+        ensures askers { self.new.askers ≡ self.old.askers }
     {
         if self.course.is_some() {
             return Err(Stop::from(BadLine::AfterStart));
@@ -242,6 +265,7 @@ impl Session {
     fn start<V: Watch>(&mut self, alloc: Global, now: Moment, watch: &mut V) -> Outcome
         ensures done { OnOk result (HasDone (λ ts. ts ≡ Starts now ∷ []) V.starts V.takes V.notes (lab_in self.old.course, watch.old) (lab_in self.new.course, watch.new)) }
         ensures awaited { self.new.awaited ≡ self.old.awaited }
+        ensures askers { self.new.askers ≡ self.old.askers }
         ensures told { HasTold result V.starts V.takes V.fails V.notes (lab_in self.old.course, watch.old) (lab_in self.new.course, watch.new) }
     {
         if self.course.is_some() {
@@ -260,6 +284,7 @@ impl Session {
     fn deceive<V: Watch>(&mut self, alloc: Global, line: &Line<'_>, watch: &mut V) -> Outcome
         ensures done { OnOk result (HasDone (λ ts. (bytes : List ℕ) × IsLie line.entry.now.router (arrival_by line.entry.now bytes) ts) V.starts V.takes V.notes (lab_in self.old.course, watch.old) (lab_in self.new.course, watch.new)) }
         ensures awaited { self.new.awaited ≡ self.old.awaited }
+        ensures askers { self.new.askers ≡ self.old.askers }
         ensures told { HasTold result V.starts V.takes V.fails V.notes (lab_in self.old.course, watch.old) (lab_in self.new.course, watch.new) }
     {
         let bytes = line.bytes(alloc)?;
@@ -274,6 +299,7 @@ impl Session {
     fn bend<V: Watch>(&mut self, line: &Line<'_>, watch: &mut V) -> Outcome
         ensures done { OnOk result (HasDone (IsNote) V.starts V.takes V.notes (lab_in self.old.course, watch.old) (lab_in self.new.course, watch.new)) }
         ensures awaited { self.new.awaited ≡ self.old.awaited }
+        ensures askers { self.new.askers ≡ self.old.askers }
         ensures told { HasTold result V.starts V.takes V.fails V.notes (lab_in self.old.course, watch.old) (lab_in self.new.course, watch.new) }
     {
         let routers = self.running()?.routers();
@@ -292,6 +318,7 @@ impl Session {
     /// The network is verified no longer.
     fn give_up(&mut self)
         ensures awaited { self.new.awaited ≡ self.old.awaited }
+        ensures askers { self.new.askers ≡ self.old.askers }
         ensures course { lab_in self.new.course ≡ lab_in self.old.course }
     {
         if let Some(mut course) = self.course.take() {

@@ -139,6 +139,7 @@ started_itself line lab now r t =
 
 printed_words : (a : Action) → IsPrinted a → HasWord a
 printed_words (action.Prints word lines text) is = is
+printed_words (action.Asks names router now lost lost_at) is = tt
 printed_words (action.Loses datagram) is = tt
 printed_words (action.GoesRound rounds last) is = tt
 printed_words (action.Makes made) is = tt

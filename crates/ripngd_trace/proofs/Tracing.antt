@@ -7,7 +7,7 @@ use Rattle.ripngd_lab.specs.Doing.{HasDone}
 use Rattle.ripngd_lab.specs.Scripts.{IsOfScript}
 use Rattle.ripngd_lab.specs.ScriptWatching.{IsToldOfLab, IsToldUntil, Telling}
 use Rattle.ripngd_trace.specs.Lines.{written_as}
-use Rattle.ripngd_trace.specs.Reading.{IsTracedUntil, Line}
+use Rattle.ripngd_trace.specs.Reading.{IsTracedUntil}
 use Rattle.ripngd_trace.specs.Scripts.{AreRecordsOf, IsScriptTraced, IsTraceOf}
 use Rattle.ripngd_trace.specs.Saying.{BreaksOff, SameOutput, Said, SaysAside, SaysEvent, SaysStart, said_by}
 use Rattle.ripngd_trace.specs.declared.tracer.Tracer.{Tracer}

@@ -46,7 +46,7 @@ pub use Rattle.ripngd_lab.specs.ScriptWatching.{StartsAt}
 pub use Rattle.ripngd_trace.specs.declared.known.Known.{Known}
 pub use Rattle.ripngd_trace.specs.declared.known.KnownRouter.{KnownRouter}
 pub use Rattle.ripngd_trace.specs.declared.records.Action.{Action}
-pub use Rattle.ripngd_trace.specs.declared.records.Action.TheVariants.{Prints, Loses, GoesRound, Makes, Ends}
+pub use Rattle.ripngd_trace.specs.declared.records.Action.TheVariants.{Prints, Asks, Loses, GoesRound, Makes, Ends}
 pub use Rattle.ripngd_trace.specs.declared.records.AsideRecord.{AsideRecord}
 pub use Rattle.ripngd_trace.specs.declared.records.EventRecord.{EventRecord}
 pub use Rattle.ripngd_trace.specs.declared.records.Happened.{Happened}

@@ -258,6 +258,8 @@ json_of_hint r = object_of ((codes "line", number_of r.0) ∷ (codes "text", str
 
 abbrev pub json_by_action : ℕ → Action → Json
 json_by_action line (action.Prints word lines text) = record_as line word.now ((codes "prints", list_of (λ text. string text.now) lines.items) ∷ [])
+json_by_action line (action.Asks names router now lost lost_at) =
+    record_as line (codes "asks") ((codes "router", number_of router) ∷ (codes "now", number_of now) ∷ (codes "lost", prefix_of lost) ∷ (codes "lost_at", number_of lost_at) ∷ [])
 json_by_action line (action.Loses datagram) = record_as line (codes "lost") ((codes "datagram", number_of datagram) ∷ [])
 json_by_action line (action.GoesRound rounds last) = record_as line (codes "rounds") ((codes "rounds", number_of rounds) ∷ (codes "last", option_of number_of last) ∷ [])
 json_by_action line (action.Makes made) = record_as line (codes "phases") ((codes "phases", number_of made.phases) ∷ (codes "last", option_of number_of made.last) ∷ [])

@@ -1,6 +1,6 @@
 -- What a reader of a trace has, who goes through its records from the first one on: each router's table.
 use Rattle.std.specs.Prelude.{◌≡◌, ◌⊎◌, ℕ, Bool, true, false, ⊤, List, [], ◌∷◌, map, Option, Some, None, codes, get_or, slice_set}
-use Rattle.ripngd_trace.specs.Below.{Table, Answer, Json, LabValue, telling, Received, Lies, World, Event, Stranger, Happens, StartsAt, KnownRouter, Action, Prints, Loses, GoesRound, Makes, Ends, AsideRecord, EventRecord, StartRecord}
+use Rattle.ripngd_trace.specs.Below.{Table, Answer, Json, LabValue, telling, Received, Lies, World, Event, Stranger, Happens, StartsAt, KnownRouter, Action, Prints, Asks, Loses, GoesRound, Makes, Ends, AsideRecord, EventRecord, StartRecord}
 use Rattle.std.specs.FinMap as map_of
 use Rattle.ripngd_trace.specs.Events.{RecordTells}
 use Rattle.ripngd_trace.specs.Json.{json_of_aside, json_of_event, json_of_start}
@@ -55,6 +55,7 @@ IsPrintWord word = (word ≡ codes "print") ⊎ ((word ≡ codes "sent") ⊎ ((w
 
 abbrev pub HasWord : Action → Type 0
 HasWord (Prints word lines text) = IsPrintWord word.now
+HasWord (Asks names router now lost lost_at) = ⊤
 HasWord (Loses datagram) = ⊤
 HasWord (GoesRound rounds last) = ⊤
 HasWord (Makes made) = ⊤

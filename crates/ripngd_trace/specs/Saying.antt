@@ -66,9 +66,10 @@ BreaksOff said what said' = WritesLess said.written said'.written
 
 -- ---- asides
 
--- it prints something, loses a datagram, makes rounds, or ends the script
+-- it prints something, asks, loses a datagram, makes rounds, or ends the script
 abbrev pub IsPrinted : Action → Type 0
 IsPrinted (action.Prints word lines text) = IsPrintWord word.now
+IsPrinted (action.Asks names router now lost lost_at) = ⊤
 IsPrinted (action.Loses datagram) = ⊤
 IsPrinted (action.GoesRound rounds last) = ⊤
 IsPrinted (action.Makes made) = ⊥

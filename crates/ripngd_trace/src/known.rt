@@ -29,6 +29,8 @@ pub struct Known<'a> {
     pub names: Names<'a>,
     /// Whether nothing is said in English of ticks and arrivals that change no forwarding table.
     pub changes_only: bool,
+    /// Whether links that come up are those on which a router asks by itself.
+    pub asks: bool,
     pub line: usize,
     pub routers: Vec<KnownRouter>,
 }
@@ -128,6 +130,7 @@ impl<'a> Known<'a> {
             happened: Happened {
                 names: self.names,
                 changes_only: self.changes_only,
+                asks: self.asks,
                 event,
                 is_forged,
                 forger,
@@ -213,7 +216,8 @@ fn news_of(alloc: Global, known: &mut Routes, table: &Routes) -> Result<News, Al
     Ok(News { routes, gone })
 }
 
-fn moment_of(event: &Event<'_>) -> Moment
+/// When an event happens: the moment of its router's clock.
+pub fn moment_of(event: &Event<'_>) -> Moment
     ensures { result ≡ moment_of (event_of event.entry.now) }
 {
     match event {
@@ -229,7 +233,7 @@ fn moment_of(event: &Event<'_>) -> Moment
 }
 
 /// The datagram of a delivery, and the address of the interface that it was sent from, if it was sent.
-fn sender_at<'e>(lab: &'e Network, event: &Event<'_>) -> Option<(&'e Sent, Option<Addr6>)>
+pub fn sender_at<'e>(lab: &'e Network, event: &Event<'_>) -> Option<(&'e Sent, Option<Addr6>)>
     ensures { option_map sender_said result ≡ sender_at lab.now (event_of event.entry.now) }
 {
     let &Event::Deliver { datagram, .. } = event else {
@@ -240,7 +244,11 @@ fn sender_at<'e>(lab: &'e Network, event: &Event<'_>) -> Option<(&'e Sent, Optio
 }
 
 /// The datagrams that were sent from a number on, in order, each with its own.
-fn sent_since(alloc: Global, lab: &Network, first: usize) -> Result<Vec<(usize, &Sent)>, AllocError>
+pub fn sent_since(
+    alloc: Global,
+    lab: &Network,
+    first: usize,
+) -> Result<Vec<(usize, &Sent)>, AllocError>
     ensures { IfOk result (λ records. map sent_said records.items ≡ sent_from first lab.now.world.sent) }
 {
     lab.sent().iter().enumerate().skip(first).collect(alloc)

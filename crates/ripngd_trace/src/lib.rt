@@ -6,4 +6,5 @@ mod records;
 mod to_json;
 mod tracer;
 
+pub use known::{moment_of, sender_at, sent_since};
 pub use tracer::{explain, readers_know_each_table, trace};

@@ -73,6 +73,8 @@ pub struct Happened<'a, 'b> {
     /// Whether nothing is said in English of ticks and arrivals that change no forwarding table.
     pub changes_only: bool,
     pub event: &'a Event<'b>,
+    /// Whether links that come up are those on which a router asks by itself.
+    pub asks: bool,
     /// Whether the outside host of the event forges a Response, which the router takes for a neighbor's.
     pub is_forged: bool,
     /// The router without poisoned reverse (`horizon`) that it comes from, if one sent it.
@@ -134,6 +136,16 @@ pub enum Action<'a> {
         lines: Vec<&'a str>,
         /// The same as it is printed.
         text: &'a str,
+    },
+    /// A router asks its neighbors for their tables, since it has lost a route: its Requests are the next events.
+    Asks {
+        names: Names<'a>,
+        router: usize,
+        /// The moment of its Requests.
+        now: u64,
+        /// The prefix of the route.
+        lost: Prefix,
+        lost_at: u64,
     },
     /// The datagram of this number is lost from now on.
     Loses(usize),
@@ -198,6 +210,7 @@ impl<'a, 'b> Display for Happened<'a, 'b> {
             Event::LinkDown { iface, .. } => {
                 write!(f, "sees the link of interface {iface} go down")
             }
+            Event::LinkUp { iface, .. } if self.asks => write!(f, "asks on interface {iface}"),
             Event::LinkUp { iface, .. } => write!(f, "sees the link of interface {iface} come up"),
             Event::Reconfigure { change, .. } => match change {
                 Change::Cost { iface, cost } => write!(f, "has cost {cost} on interface {iface}"),
@@ -328,6 +341,21 @@ impl<'a> Display for AsideRecord<'a> {
         let line = self.line;
         match &self.action {
             Action::Prints { text, .. } => f.write_str(*text),
+            &Action::Asks {
+                names,
+                router,
+                now,
+                lost,
+                lost_at,
+            } => {
+                write_head(line, now, f)?;
+                write_router(names, router, f)?;
+                let (seconds, rest) = (lost_at / 1000, lost_at % 1000);
+                writeln!(
+                    f,
+                    " asks its neighbors: it lost the route to {lost} at {seconds}.{rest:03} s"
+                )
+            }
             Action::Loses(datagram) => writeln!(f, "line {line}: datagram {datagram} is lost"),
             Action::GoesRound { rounds, last } => {
                 write!(f, "line {line}: {rounds} rounds are made; ")?;

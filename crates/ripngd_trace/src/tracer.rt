@@ -65,6 +65,7 @@ fn observed<W: Write>(
             alloc,
             names,
             changes_only,
+            asks: false,
             line: 0,
             routers: Vec::new(alloc),
         },
@@ -150,6 +151,7 @@ impl<'a, W: Write> Watch for Tracer<'a, W> {
 
     fn at_line(&mut self, number: usize) {
         self.known.line = number;
+        self.known.asks = false;
         self.ticks = 0;
         self.ticks_at_change = 0;
     }
@@ -168,6 +170,16 @@ impl<'a, W: Write> Watch for Tracer<'a, W> {
             Notice::Way(_) => "path",
             Notice::Horizon { .. } => "horizon",
             Notice::Said(_) => "say",
+            &Notice::Asks { router, now, loss } => {
+                self.known.asks = true;
+                return self.report_action(Action::Asks {
+                    names,
+                    router,
+                    now: now.ms(),
+                    lost: loss.prefix,
+                    lost_at: loss.at.ms(),
+                });
+            }
             &Notice::Lost(datagram) => return self.report_action(Action::Loses(datagram)),
             &Notice::Rounds(rounds) => {
                 // Numbered from 0: in each round there were as many ticks.

@@ -57,6 +57,13 @@ impl<'a> ToJson for AsideRecord<'a> {
             Action::Prints { word, lines, .. } => {
                 object!(text, line, "record": word, "prints": lines);
             }
+            Action::Asks {
+                router,
+                now,
+                lost,
+                lost_at,
+                ..
+            } => object!(text, line, "record": &"asks", router, now, lost, lost_at),
             Action::Loses(datagram) => object!(text, line, "record": &"lost", datagram),
             Action::GoesRound { rounds, last } => {
                 object!(text, line, "record": &"rounds", rounds, last);

@@ -1,4 +1,4 @@
-use Rattle.std.proofs.Common.{◌≡◌, rules}
+use Rattle.std.proofs.Common.{rules}
 use Rattle.ripngd_lab.specs.Scripts.{first_word, forms}
 use Rattle.ripngd_lab.proofs.Words.{read_mapped}
 use Rattle.ripngd_lab.proofs.line.form_for.Goals as goal

@@ -1,20 +1,24 @@
-use Rattle.std.proofs.Common.{◌≡◌, ℕ, List, Err, None, rules, subst}
-use Rattle.ripngd_lab.specs.Scripts.{HasWords}
+use Rattle.std.proofs.Common.{◌≡◌, Bool, ap, ap₂, is_some}
+use Rattle.ripngd_lab.specs.Scripts.{mode_of}
 use Rattle.ripngd_lab.specs.ScriptWatching.{lab_in}
-use Rattle.ripngd_lab.proofs.Saying.{blank_done, line_done}
-use Rattle.ripngd_lab.proofs.ScriptWatching.{untold, has_told}
+use Rattle.ripngd_lab.proofs.Saying.{blank_done, says_done, told_done}
+use Rattle.ripngd_lab.proofs.ScriptWatching.{handed, has_told_on}
 use Rattle.ripngd_lab.proofs.script.run_line.Goals as goal
 
 pub returns-then-is_blank-clause-done : goal.returns-then-is_blank-clause-done
 returns-then-is_blank-clause-done g c = blank_done g.V.Watch.starts g.V.Observer.takes g.V.Observer.fails g.V.Watch.notes _ c.args.line.now _ (c.is_blank.ensures c.if-is_blank.true)
 
-pub returns-in_default-clause-told : goal.returns-in_default-clause-told
-returns-in_default-clause-told g c = has_told g.V.Watch.starts g.V.Observer.takes g.V.Observer.fails g.V.Watch.notes (Err c.from.result) (lab_in c.args.session.now.course, c.args.watch.now) (lab_in c.args.session.now.course, c.args.watch.now) (untold g.V.Watch.starts g.V.Observer.takes g.V.Observer.fails g.V.Watch.notes (lab_in c.args.session.now.course, c.args.watch.now))
+pub returns-in_err-do_line-clause-told : goal.returns-in_err-do_line-clause-told
+returns-in_err-do_line-clause-told g c =
+    handed g.V.Watch.starts g.V.Observer.takes g.V.Observer.fails g.V.Watch.notes c.from_residual.result c.in_err-do_line.field-0.0 (lab_in c.args.session.now.course, c.args.watch.now) (lab_in c.do_line.new.session.course, c.do_line.new.watch) c.from_residual.ensures.1 c.in_err-do_line.ensures.told
 
-pub returns-in-None-clause-done : goal.returns-in-None-clause-done
-returns-in-None-clause-done g c =
-    let before : c.args.session.now.awaited ≡ None = search rules in
-    let after : c.take-awaited.new.self ≡ None = search rules in
-    let text : c.in-Ok.text.now ≡ c.args.line.now = search rules in
-    line_done g.V.Watch.starts g.V.Observer.takes g.V.Observer.fails g.V.Watch.notes c.obey-outcome.result c.args.line.now c.words_of.result.now c.args.session.now.awaited c.take-awaited.new.self c.obey-outcome.new.self.awaited (lab_in c.args.session.now.course, c.args.watch.now) (lab_in c.obey-outcome.new.self.course, c.obey-outcome.new.watch)
-    before after (subst (λ (t : List ℕ). HasWords t c.words_of.result.now) text c.words_of.ensures) c.obey-outcome.ensures.done
+pub returns-clause-told : goal.returns-clause-told
+returns-clause-told g c =
+    has_told_on g.V.Watch.starts g.V.Observer.takes g.V.Observer.fails g.V.Watch.notes c.ask.result (lab_in c.args.session.now.course, c.args.watch.now) (lab_in c.do_line.new.session.course, c.do_line.new.watch) (lab_in c.ask.new.self.course, c.ask.new.watch)
+    (told_done g.V.Watch.starts g.V.Observer.takes g.V.Observer.fails g.V.Watch.notes _ (lab_in c.args.session.now.course, c.args.watch.now) (lab_in c.do_line.new.session.course, c.do_line.new.watch) c.in_ok-do_line.ensures.done) c.ask.ensures.told
+
+pub returns-clause-done : goal.returns-clause-done
+returns-clause-done g c =
+    let same : mode_of c.ask.new.self ≡ mode_of c.do_line.new.session = ap₂ (λ (a b : Bool). record { awaits = a; asks = b }) (ap is_some c.ask.ensures.awaited) c.ask.ensures.askers in
+    says_done g.V.Watch.starts g.V.Observer.takes g.V.Observer.fails g.V.Watch.notes c.ask.result c.args.line.now (mode_of c.args.session.now) (mode_of c.do_line.new.session) (mode_of c.ask.new.self) (lab_in c.args.session.now.course, c.args.watch.now) (lab_in c.do_line.new.session.course, c.do_line.new.watch) (lab_in c.ask.new.self.course, c.ask.new.watch)
+    same c.in_ok-do_line.ensures.done c.ask.ensures.done

@@ -1,8 +1,8 @@
-use Rattle.std.proofs.Common.{◌+◌, ◌<◌, ◌∷◌, ℕ, List, Option, None, arith, false, true, ap, inr, length, rules, is_some, refl, subst, sym, take}
+use Rattle.std.proofs.Common.{◌<◌, ℕ, Bool, List, Option, None, arith, false, true, ap, ap₂, inr, length, rules, is_some, refl, subst, sym, take}
 use Rattle.ripng_world.specs.Labs.{LabValue}
 use Rattle.ripngd_lab.specs.ScriptWatching.{IsToldUntil, is_failure, lab_in}
 use Rattle.ripngd_lab.specs.Doing.{HasDone}
-use Rattle.ripngd_lab.specs.Scripts.{AreSaid, numbered}
+use Rattle.ripngd_lab.specs.Scripts.{AreSaid, at_begin, mode_of, numbered}
 use Rattle.ripngd_lab.proofs.Saying.{as_many, begun, end_done, if_whole, line_on, next_line, told_done, whole}
 use Rattle.ripngd_lab.proofs.ScriptWatching.{ended_on, err_then, failed_still, given_err, line_ends, noted_on, ok_then, on_fault, told_until, turned_on, until_on, untold}
 use Rattle.ripngd_lab.proofs.script.watched.Goals as goal
@@ -60,7 +60,8 @@ returns-in-Err-Failed-clause-told_until g c = (
 
 pub loop-place-init : goal.loop-place-init
 loop-place-init g c =
-    begun g.V.Watch.starts g.V.Observer.takes g.V.Observer.fails g.V.Watch.notes c.new-session.result.awaited (lab_in c.new-session.result.course) c.args.watch.now c.new-session.ensures.unstarted c.new-session.ensures.unawaited
+    begun g.V.Watch.starts g.V.Observer.takes g.V.Observer.fails g.V.Watch.notes (mode_of c.new-session.result) (lab_in c.new-session.result.course) c.args.watch.now c.new-session.ensures.unstarted
+    (ap₂ (λ (a b : Bool). record { awaits = a; asks = b }) (ap is_some c.new-session.ensures.unawaited) c.new-session.ensures.unasked)
 
 pub loop-place-preserved : goal.loop-place-preserved
 loop-place-preserved g c =
@@ -68,20 +69,20 @@ loop-place-preserved g c =
     let line = c.index.result.now in
     let below : place < length c.in_ok-lines.lines.items = search rules in
     let more = next_line c.args.script.now c.in_ok-lines.lines.items c.in_ok-lines.ensures place line below c.index.ensures in
-    subst (λ (ls : List (ℕ × List ℕ)). HasDone (λ ts. AreSaid false ls ts (is_some c.run_line.new.session.awaited)) g.V.Watch.starts g.V.Observer.takes g.V.Watch.notes (None, c.args.watch.now) (lab_in c.run_line.new.session.course, c.run_line.new.watch)) (sym more)
-    (line_on g.V.Watch.starts g.V.Observer.takes g.V.Observer.fails g.V.Watch.notes (take place (numbered c.args.script.now)) (place, line.now) _ (is_some c.loop-place.session.awaited) (is_some c.run_line.new.session.awaited) (None, c.args.watch.now) (lab_in c.run_line.new.session.course, c.run_line.new.watch)
+    subst (λ (ls : List (ℕ × List ℕ)). HasDone (λ ts. AreSaid at_begin ls ts (mode_of c.run_line.new.session)) g.V.Watch.starts g.V.Observer.takes g.V.Watch.notes (None, c.args.watch.now) (lab_in c.run_line.new.session.course, c.run_line.new.watch)) (sym more)
+    (line_on g.V.Watch.starts g.V.Observer.takes g.V.Observer.fails g.V.Watch.notes (take place (numbered c.args.script.now)) (place, line.now) _ (mode_of c.loop-place.session) (mode_of c.run_line.new.session) (None, c.args.watch.now) (lab_in c.run_line.new.session.course, c.run_line.new.watch)
     (lab_in c.loop-place.session.course) c.loop-place.watch c.at_line.new.self (omega (arith, c.saturating_add-number.ensures, below, c.in_ok-lines.lines.ok.0)) c.loop-place.invariant c.at_line.ensures c.in-Ok.ensures.done)
 
 pub returns-clause-said : goal.returns-clause-said
 returns-clause-said g c =
-    if_whole g.V.Watch.starts g.V.Observer.takes g.V.Observer.fails g.V.Watch.notes c.end.result c.args.script.now (take c.loop-place.place (numbered c.args.script.now)) (is_some c.loop-place.session.awaited) (None, c.args.watch.now) (lab_in c.loop-place.session.course) c.loop-place.watch c.end.new.watch
+    if_whole g.V.Watch.starts g.V.Observer.takes g.V.Observer.fails g.V.Watch.notes c.end.result c.args.script.now (take c.loop-place.place (numbered c.args.script.now)) (mode_of c.loop-place.session) (None, c.args.watch.now) (lab_in c.loop-place.session.course) c.loop-place.watch c.end.new.watch
     (whole c.args.script.now c.in_ok-lines.lines.items c.in_ok-lines.ensures c.loop-place.place (omega arith)) c.loop-place.invariant c.end.ensures.ended
 
 pub returns-in-Err-Refused-clause-said : goal.returns-in-Err-Refused-clause-said
 returns-in-Err-Refused-clause-said g c =
     let below : c.loop-place.place < length c.in_ok-lines.lines.items = search rules in (
       lab_in c.run_line.new.session.course,
-      end_done g.V.Watch.starts g.V.Observer.takes g.V.Observer.fails g.V.Watch.notes c.args.script.now (take c.loop-place.place (numbered c.args.script.now)) c.loop-place.place _ (is_some c.loop-place.session.awaited) c.in-Err-Refused.field-0 (None, c.args.watch.now) (lab_in c.loop-place.session.course) (lab_in c.run_line.new.session.course)
+      end_done g.V.Watch.starts g.V.Observer.takes g.V.Observer.fails g.V.Watch.notes c.args.script.now (take c.loop-place.place (numbered c.args.script.now)) c.loop-place.place _ (mode_of c.loop-place.session) c.in-Err-Refused.field-0 (None, c.args.watch.now) (lab_in c.loop-place.session.course) (lab_in c.run_line.new.session.course)
           c.loop-place.watch c.at_line.new.self c.run_line.new.watch c.noticed.new.self (ap is_failure c.in-Err-Refused.field-0-is) (omega (arith, below, as_many c.args.script.now c.in_ok-lines.lines.items c.in_ok-lines.ensures)) refl
           (omega (arith, c.saturating_add-number.ensures, below, c.in_ok-lines.lines.ok.0)) c.loop-place.invariant c.at_line.ensures c.in-Err-Refused.ensures.told c.in_ok-noticed-in-Err-Refused.ensures.notes,
     )
@@ -90,7 +91,7 @@ pub returns-in-Err-Unmet-clause-said : goal.returns-in-Err-Unmet-clause-said
 returns-in-Err-Unmet-clause-said g c =
     let below : c.loop-place.place < length c.in_ok-lines.lines.items = search rules in (
       lab_in c.run_line.new.session.course,
-      end_done g.V.Watch.starts g.V.Observer.takes g.V.Observer.fails g.V.Watch.notes c.args.script.now (take c.loop-place.place (numbered c.args.script.now)) c.loop-place.place _ (is_some c.loop-place.session.awaited) c.in-Err-Unmet.field-0 (None, c.args.watch.now) (lab_in c.loop-place.session.course) (lab_in c.run_line.new.session.course)
+      end_done g.V.Watch.starts g.V.Observer.takes g.V.Observer.fails g.V.Watch.notes c.args.script.now (take c.loop-place.place (numbered c.args.script.now)) c.loop-place.place _ (mode_of c.loop-place.session) c.in-Err-Unmet.field-0 (None, c.args.watch.now) (lab_in c.loop-place.session.course) (lab_in c.run_line.new.session.course)
           c.loop-place.watch c.at_line.new.self c.run_line.new.watch c.noticed-in-Err-Unmet.new.self (ap is_failure c.in-Err-Unmet.field-0-is) (omega (arith, below, as_many c.args.script.now c.in_ok-lines.lines.items c.in_ok-lines.ensures)) refl
           (omega (arith, c.saturating_add-number.ensures, below, c.in_ok-lines.lines.ok.0)) c.loop-place.invariant c.at_line.ensures c.in-Err-Unmet.ensures.told c.in_ok-noticed-in-Err-Unmet.ensures.notes,
     )

@@ -14,14 +14,14 @@ returns-in_err-events-clause-told g c =
 
 pub returns-in_err-mark_link-clause-told : goal.returns-in_err-mark_link-clause-told
 returns-in_err-mark_link-clause-told g c =
-    untold_as g.V.Watch.starts g.V.Observer.takes g.V.Observer.fails g.V.Watch.notes c.from_residual-in_err-mark_link.result (Some (value_of c.args.self.now.site)) (Some (value_of c.mark_link.new.self.site)) c.args.watch.now (ap (λ (s : Site). Some (value_of s)) c.mark_link.ensures)
+    untold_as g.V.Watch.starts g.V.Observer.takes g.V.Observer.fails g.V.Watch.notes c.from_residual-in_err-mark_link.result (Some (value_of c.args.self.now.site)) (Some (value_of c.mark_link.new.self.site)) c.args.watch.now (ap (λ (s : Site). Some (value_of s)) c.mark_link.ensures.site)
 
 pub returns-clause-done : goal.returns-clause-done
 returns-clause-done g c =
-    done_from g.V.Watch.starts g.V.Observer.takes g.V.Observer.fails g.V.Watch.notes c.play.result (IsAtEach c.args.kind c.args.line.now) (Some (value_of c.args.self.now.site)) (Some (value_of c.mark_link.new.self.site)) c.args.watch.now (Some (value_of c.play.new.self.site), c.play.new.watch) (ap (λ (s : Site). Some (value_of s)) (sym c.mark_link.ensures))
+    done_from g.V.Watch.starts g.V.Observer.takes g.V.Observer.fails g.V.Watch.notes c.play.result (IsAtEach c.args.kind c.args.line.now) (Some (value_of c.args.self.now.site)) (Some (value_of c.mark_link.new.self.site)) c.args.watch.now (Some (value_of c.play.new.self.site), c.play.new.watch) (ap (λ (s : Site). Some (value_of s)) (sym c.mark_link.ensures.site))
     (each_done g.V.Watch.starts g.V.Observer.takes g.V.Observer.fails g.V.Watch.notes c.play.result c.args.kind c.args.line.now (map event_of c.in_ok-events.events.items) (Some (value_of c.mark_link.new.self.site), c.args.watch.now) (Some (value_of c.play.new.self.site), c.play.new.watch) c.in_ok-events.ensures
     (subst (λ (es : List _). OnOk c.play.result (HasDone (InTurn (IsPlayed false) (map event_of es)) g.V.Watch.starts g.V.Observer.takes g.V.Watch.notes (Some (value_of c.mark_link.new.self.site), c.args.watch.now) (Some (value_of c.play.new.self.site), c.play.new.watch))) c.deref.ensures.value c.play.ensures.done))
 
 pub returns-clause-told : goal.returns-clause-told
 returns-clause-told g c =
-    told_from g.V.Watch.starts g.V.Observer.takes g.V.Observer.fails g.V.Watch.notes c.play.result (Some (value_of c.args.self.now.site)) (Some (value_of c.mark_link.new.self.site)) c.args.watch.now (Some (value_of c.play.new.self.site), c.play.new.watch) (ap (λ (s : Site). Some (value_of s)) (sym c.mark_link.ensures)) c.play.ensures.told
+    told_from g.V.Watch.starts g.V.Observer.takes g.V.Observer.fails g.V.Watch.notes c.play.result (Some (value_of c.args.self.now.site)) (Some (value_of c.mark_link.new.self.site)) c.args.watch.now (Some (value_of c.play.new.self.site), c.play.new.watch) (ap (λ (s : Site). Some (value_of s)) (sym c.mark_link.ensures.site)) c.play.ensures.told

@@ -1,4 +1,4 @@
-use Rattle.std.proofs.Common.{Some, ap, is_some, map, take, arith, subst, sym, take_all, ◌∙◌, List, ◌++◌, ◌∷◌, []}
+use Rattle.std.proofs.Common.{Some, ap, is_some, map, take, arith, subst, sym, take_all, ◌∙◌, List, ◌∷◌, []}
 use Rattle.std.proofs.lemmas.List.{map-append}
 use Rattle.ripng_world.specs.Events.{event_of}
 use Rattle.ripng_world.specs.World.{Event}
@@ -6,7 +6,7 @@ use Rattle.ripngd_lab.specs.Doing.{HasDone, InTurn, IsPlayed}
 use Rattle.ripngd_lab.specs.ScriptWatching.{value_of}
 use Rattle.ripngd_lab.proofs.Exercises.{taken}
 use Rattle.ripngd_lab.proofs.Saying.{told_done}
-use Rattle.ripngd_lab.proofs.ScriptWatching.{told_on, has_told, handed_on}
+use Rattle.ripngd_lab.proofs.ScriptWatching.{has_told, handed_on}
 use Rattle.ripngd_lab.proofs.Waving.{none_in_turn, turn_on}
 use Rattle.ripngd_lab.proofs.course.Course.play.Goals as goal
 
