@@ -3,8 +3,10 @@ use Rattle.std.proofs.Common.{◌∙◌, ℕ, Bool, true, false, List, Option, N
 use Rattle.std.specs.Io.KnownBytes.{Appends, Keeps}
 use Rattle.ripngd_command_line.specs.declared.asked.Ask.{Ask}
 use Rattle.ripngd_command_line.specs.declared.asked.Ask.TheVariants as asks
+use Rattle.ripngd_command_line.specs.declared.asked.Job.{Job}
+use Rattle.ripngd_command_line.specs.declared.asked.Job.TheVariants as jobs
 use Rattle.ripngd_daemon.specs.declared.history.History.{History}
-use Rattle.ripngd.specs.Exit.{AnswersAsk}
+use Rattle.ripngd.specs.Exit.{AnswersAsk, AnswersJob}
 
 -- what was appended stays
 appends_kept : (text : List ℕ) (old mid new : Option (List ℕ)) → Appends old mid text → Keeps mid new → Appends old new text
@@ -32,3 +34,10 @@ answer_kept holds history (asks.Ctl question) accepted old mid new (answer, (tex
     (answer, (text, is, appends_kept text old mid new wrote kept))
 answer_kept holds history (asks.Table file) accepted old mid new (log, held, text, is, wrote) kept =
     (log, held, text, is, appends_kept text old mid new wrote kept)
+
+-- whatever the job was
+pub job_kept : (holds : List ℕ → List ℕ → Type 0) (history : History) (job : Job) (accepted : Bool) (old mid new : Option (List ℕ))
+    → AnswersJob holds history job accepted old mid → Keeps mid new → AnswersJob holds history job accepted old new
+job_kept holds history (jobs.Ask ask) accepted old mid new answer kept = answer_kept holds history ask accepted old mid new answer kept
+job_kept holds history (jobs.ShowCapture file) accepted old mid new answer kept = answer
+job_kept holds history (jobs.LabCapture capturing) accepted old mid new answer kept = answer

@@ -1,5 +1,5 @@
 -- What the exit statuses of ripngd mean (they are this project's choice).
-use Rattle.std.specs.Prelude.{◌≢◌, ◌⊎◌, ℕ, Bool, IfSome, List, [], Option, ⊤}
+use Rattle.std.specs.Prelude.{◌≡◌, ◌≢◌, ◌⊎◌, ℕ, Bool, IfSome, List, [], Option, ⊤}
 use Rattle.std.specs.Io.KnownBytes.{Appends}
 use Rattle.clap.specs.Faults.{fault_of}
 use Rattle.clap.specs.Kinds.{IsAmong}
@@ -7,6 +7,8 @@ use Rattle.clap.specs.Walk.{Text}
 use Rattle.clap.specs.declared.error.kind.ErrorKind.TheVariants.{DisplayHelp, DisplayVersion}
 use Rattle.ripngd_command_line.specs.declared.asked.Ask.{Ask}
 use Rattle.ripngd_command_line.specs.declared.asked.Ask.TheVariants as asks
+use Rattle.ripngd_command_line.specs.declared.asked.Job.{Job}
+use Rattle.ripngd_command_line.specs.declared.asked.Job.TheVariants as jobs
 use Rattle.ripngd_command_line.specs.declared.asked.Marking.{Marking}
 use Rattle.ripngd_daemon.specs.declared.failure.Failure.{Failure}
 use Rattle.ripngd_daemon.specs.declared.history.History.{History}
@@ -42,10 +44,26 @@ AnswersAsk holds history (asks.Ctl question) accepted old new = (answer : List �
 AnswersAsk holds history (asks.Table file) accepted old new = (log : List ℕ) × holds file.now log
     × (text : List ℕ) × IsTabled log accepted text × Appends old new text
 
+-- the same of a job. What is shown of a capture, and what it has of a script, is not said here
+abbrev pub AnswersJob : (List ℕ → List ℕ → Type 0) → History → Job → Bool → Option (List ℕ) → Option (List ℕ) → Type 0
+AnswersJob holds history (jobs.Ask ask) accepted old new = AnswersAsk holds history ask accepted old new
+AnswersJob holds history (jobs.ShowCapture file) accepted old new = (capture : List ℕ) × holds file.now capture
+AnswersJob holds history (jobs.LabCapture capturing) accepted old new = (script : List ℕ) × holds capturing.script.now script
+
+-- what may fail where this is the job: of a capture its files, what is printed, or memory
+abbrev pub JobMayFail : Job → Failure → Type 0
+JobMayFail (jobs.Ask ask) failure = MayFail ask failure
+JobMayFail (jobs.ShowCapture shown) (failures.Read file cause) = file.now ≡ shown.now
+JobMayFail (jobs.LabCapture capturing) (failures.Read file cause) = file.now ≡ capturing.script.now
+JobMayFail (jobs.LabCapture capturing) (failures.Log file cause) = file.now ≡ capturing.capture.now
+JobMayFail job failures.Output = ⊤
+JobMayFail job failures.OutOfMemory = ⊤
+JobMayFail job failure = ⊥
+
 -- the bytes of a writer grew by the answer to what the words ask
 abbrev pub AnswersWords : (List ℕ → List ℕ → Type 0) → List Text → Bool → Option (List ℕ) → Option (List ℕ) → Type 0
 AnswersWords holds words accepted old new =
-    (ask : Ask) × Asks words ask × (history : History) × AnswersAsk holds history ask accepted old new
+    (job : Job) × Asks words job × (history : History) × AnswersJob holds history job accepted old new
 
 -- a file may hold anything: of those of the system nothing is known
 abbrev pub holds_any : List ℕ → List ℕ → Type 0
@@ -55,7 +73,7 @@ holds_any file text = ⊤
 abbrev pub FailsWords : List Text → Failure → Type 0
 FailsWords words failures.Output = ⊤
 FailsWords words failures.OutOfMemory = ⊤
-FailsWords words failure = (ask : Ask) × Asks words ask × MayFail ask failure
+FailsWords words failure = (job : Job) × Asks words job × JobMayFail job failure
 
 -- the words ask for help, or for the version
 abbrev pub AsksForHelp : List Text → Type 0
@@ -63,4 +81,4 @@ AsksForHelp words = IsAmong DisplayHelp (fault_of ripngd words) ⊎ IsAmong Disp
 
 -- the words have a fault, or make no sense together
 abbrev pub HaveFault : List Text → Type 0
-HaveFault words = (fault_of ripngd words ≢ []) ⊎ ((ask : Ask) × Asks words ask × IsMisused ask)
+HaveFault words = (fault_of ripngd words ≢ []) ⊎ ((job : Job) × Asks words job × IsMisused job)

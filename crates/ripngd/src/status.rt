@@ -1,20 +1,23 @@
 //! The whole program, on two writers: each subcommand, and its exit status.
 
-ghost use Rattle.std.specs.Prelude.{◌≡◌, ◌≢◌, ◌⊎◌, ◌≤◌, IfErr, IfOk, Ok, OnOk, false, map, true};
+ghost use Rattle.std.specs.Prelude.{◌≡◌, ◌≢◌, ◌⊎◌, ◌≤◌, ℕ, IfErr, IfOk, List, Ok, OnOk, false, map, true};
 ghost use Rattle.clap.specs.Words.{kind_of};
-ghost use Rattle.ripngd.specs.Exit.{AnswersAsk, AnswersWords, AreHeld, AsksForHelp, FailsWords, HaveFault, holds_any};
+ghost use Rattle.ripngd.specs.Exit.{AnswersAsk, AnswersJob, AnswersWords, AreHeld, AsksForHelp, FailsWords, HaveFault, JobMayFail, holds_any};
 ghost use Rattle.ripngd_daemon.specs.Failing.{MayFail};
 
-use crate::subcommands::{explain, mark, trace};
+use crate::subcommands::{capture, explain, mark, trace};
 use clap::error::ErrorKind;
-use ripngd_command_line::{Ask, Marking, ask, misuse_of};
+use ripngd_command_line::{Ask, Capturing, Job, Marking, ask, misuse_of};
 use ripngd_daemon::{
-    Failure, FileSource, History, System, SystemFiles, check_file, ctl, run, table_file,
+    Failure, FileCause, FileSource, History, System, SystemFiles, check_file, ctl, run, table_file,
     write_failure, write_losses,
 };
-use ripngd_show::{PrintFault, show};
+use ripngd_show::{PrintFault, show, show_capture};
 use std::alloc::Global;
+use std::fs;
 use std::io::{self, Write};
+use std::os::unix::fs::MetadataExt;
+use std::rt::Files;
 
 /// The exit status of the program.
 #[derive(Clone, Copy, Debug, PartialEq, Eq)]
@@ -84,19 +87,95 @@ fn outcome<'a, R: System, F: FileSource, O: Write, E: Write>(
     ensures failed { IfErr result (FailsWords (map (λ w. w.now) words.entry.now)) }
 {
     match ask(rt.alloc(), words) {
-        Ok(asked) => match misuse_of(asked) {
+        Ok(job) => match misuse_of(job) {
             Some(why) => {
                 let _ = err.write_all(why.as_bytes());
                 Ok(Status::Usage)
             }
-            None => answer(rt, files, asked, history, out, err),
+            None => answer(rt, files, job, history, out, err),
         },
         Err(error) => write_clap_text(&error, out, err),
     }
 }
 
-/// Runs a subcommand, and returns whether its input is accepted. A refused line of a script gets a hint on `err`.
+/// Does a job, and returns whether its input is accepted. A refused line of a script gets a hint on `err`.
 fn accepts<'a, R: System, F: FileSource, O: Write, E: Write>(
+    rt: &R,
+    files: &F,
+    job: Job<'a>,
+    history: &mut History,
+    out: &mut O,
+    err: &mut E,
+) -> Result<bool, Failure<'a>>
+    ensures answered { IfOk result (λ accepted. AnswersJob (F.holds files.now) history.new job.entry accepted
+        (O.contents out.old) (O.contents out.new)) }
+    ensures failed { IfErr result (JobMayFail job.entry) }
+{
+    match job {
+        Job::Ask(asked) => accepts_ask(rt, files, asked, history, out, err),
+        Job::ShowCapture(file) => {
+            let capture = files.read(file)?;
+            Ok(show_capture(rt.alloc(), capture.as_slice(), out)?)
+        }
+        Job::LabCapture(capturing) => capture_file(rt, files, capturing, out, err),
+    }
+}
+
+/// Runs the script of a file, writes what it prints, and then the file of its capture, and returns whether every line was done.
+fn capture_file<'a, R: System, F: FileSource, O: Write, E: Write>(
+    rt: &R,
+    files: &F,
+    capturing: Capturing<'a>,
+    out: &mut O,
+    err: &mut E,
+) -> Result<bool, Failure<'a>>
+    ensures held { OnOk result ((script : List ℕ) × F.holds files.now capturing.entry.script.now script) }
+    ensures failed { IfErr result (JobMayFail (Job.LabCapture capturing.entry)) }
+{
+    let script = files.read(capturing.script)?;
+    if is_same_file(rt, capturing.capture, capturing.script) {
+        return Err(Failure::Log(capturing.capture, FileCause::Other));
+    }
+    let mut captured = Vec::new(rt.alloc());
+    let done = capture(rt.alloc(), script.as_slice(), out, err, &mut captured)?;
+    write_file(rt, capturing.capture, captured.as_slice())?;
+    Ok(done)
+}
+
+/// Whether two names are of one regular file.
+fn is_same_file<R: Files>(rt: &R, name: &str, other: &str) -> bool {
+    match (fs::metadata(rt, name), fs::metadata(rt, other)) {
+        (Ok(one), Ok(two)) => one.is_file() && one.dev() == two.dev() && one.ino() == two.ino(),
+        _ => false,
+    }
+}
+
+/// Writes a whole file.
+fn write_file<'a, R: Files>(rt: &R, file: &'a str, bytes: &[u8]) -> Result<(), Failure<'a>>
+    ensures { IfErr result (λ f. (f ≡ Failure.OutOfMemory) ⊎ ((cause : FileCause) × (f ≡ Failure.Log file.entry cause))) }
+{
+    match fs::write(rt, file, bytes) {
+        Ok(()) => Ok(()),
+        Err(error) => match error.kind() {
+            io::ErrorKind::OutOfMemory => Err(Failure::OutOfMemory),
+            kind => Err(Failure::Log(file, cause_of(kind))),
+        },
+    }
+}
+
+/// Why a file cannot be written.
+fn cause_of(kind: io::ErrorKind) -> FileCause {
+    match kind {
+        io::ErrorKind::NotFound => FileCause::NotFound,
+        io::ErrorKind::PermissionDenied => FileCause::NotPermitted,
+        io::ErrorKind::IsADirectory => FileCause::IsDirectory,
+        io::ErrorKind::StorageFull => FileCause::Full,
+        _ => FileCause::Other,
+    }
+}
+
+/// Runs a subcommand without a capture.
+fn accepts_ask<'a, R: System, F: FileSource, O: Write, E: Write>(
     rt: &R,
     files: &F,
     asked: Ask<'a>,
@@ -146,23 +225,23 @@ fn mark_files<'a, F: FileSource, O: Write, E: Write>(
     Ok(mark(alloc, script.as_slice(), exercise, marking.counts, out, err)?)
 }
 
-/// Runs a subcommand, and flushes its output.
+/// Does a job, and flushes its output.
 fn answer<'a, R: System, F: FileSource, O: Write, E: Write>(
     rt: &R,
     files: &F,
-    asked: Ask<'a>,
+    job: Job<'a>,
     history: &mut History,
     out: &mut O,
     err: &mut E,
 ) -> Result<Status, Failure<'a>>
     ensures done { result ≡ Ok Status.Done
-        → AnswersAsk (F.holds files.now) history.new asked.entry true (O.contents out.old) (O.contents out.new) }
+        → AnswersJob (F.holds files.now) history.new job.entry true (O.contents out.old) (O.contents out.new) }
     ensures refused { result ≡ Ok Status.Refused
-        → AnswersAsk (F.holds files.now) history.new asked.entry false (O.contents out.old) (O.contents out.new) }
+        → AnswersJob (F.holds files.now) history.new job.entry false (O.contents out.old) (O.contents out.new) }
     ensures no_usage { result ≢ Ok Status.Usage }
-    ensures failed { IfErr result (MayFail asked.entry) }
+    ensures failed { IfErr result (JobMayFail job.entry) }
 {
-    let accepted = accepts(rt, files, asked, history, out, err)?;
+    let accepted = accepts(rt, files, job, history, out, err)?;
     out.flush().map_err(|_| Failure::Output)?;
     if accepted {
         Ok(Status::Done)

@@ -1,4 +1,5 @@
-//! The subcommand `lab` on a text: it simulates a network of routers from a script, with or without a trace or an explanation, or marks it.
+//! The subcommand `lab` on a text: it simulates a network of routers from a script, with or without a trace, an explanation or a capture,
+//! or marks it.
 
 use ripngd_show::PrintFault;
 use std::alloc::Global;
@@ -46,4 +47,18 @@ pub fn explain<W: Write>(
     out: &mut W,
 ) -> Result<bool, PrintFault> {
     Ok(ripngd_trace::explain(alloc, script, changes_only, out)?)
+}
+
+/// Runs a script, as [`ripngd_lab_capture::capture`] does, and returns whether every line was done.
+///
+/// # Errors
+/// `OutOfMemory` or `Write`. What earlier lines printed may have been written.
+pub fn capture<W: Write, E: Write>(
+    alloc: Global,
+    script: &[u8],
+    out: &mut W,
+    err: &mut E,
+    file: &mut Vec<u8>,
+) -> Result<bool, PrintFault> {
+    Ok(ripngd_lab_capture::capture(alloc, script, out, err, file)?)
 }

@@ -115,3 +115,18 @@ marking_is_taken = refl
 solution_is_missing : fault_of ripngd (codes "ripngd" ∷ codes "lab" ∷ codes "--against" ∷ codes "e" ∷ []) ≡ MissingRequiredArgument ∷ []
 unfolding clap_on_literals
 solution_is_missing = refl
+
+-- `show --pcap c.pcap`: the datagrams of a capture
+capture_is_taken : takes ripngd (codes "ripngd" ∷ codes "show" ∷ codes "--pcap" ∷ codes "c.pcap" ∷ []) ≡ true
+unfolding clap_on_literals
+capture_is_taken = refl
+
+-- `show --pcap`: and there has to be a file
+capture_is_missing : fault_of ripngd (codes "ripngd" ∷ codes "show" ∷ codes "--pcap" ∷ []) ≡ MissingRequiredArgument ∷ []
+unfolding clap_on_literals
+capture_is_missing = refl
+
+-- `lab --pcap c.pcap s`: a capture is made
+capturing_is_taken : takes ripngd (codes "ripngd" ∷ codes "lab" ∷ codes "--pcap" ∷ codes "c.pcap" ∷ codes "s" ∷ []) ≡ true
+unfolding clap_on_literals
+capturing_is_taken = refl

@@ -4,10 +4,13 @@ use Rattle.std.specs.Str.Parse.{digits_value, without_leading_plus}
 use Rattle.clap.specs.Walk.{Row, Text, first_of, one_of}
 use Rattle.clap.specs.Simple.{subcommand_of}
 use Rattle.ripngd_command_line.specs.declared.asked.Ask.{Ask}
+use Rattle.ripngd_command_line.specs.declared.asked.Capturing.{Capturing}
+use Rattle.ripngd_command_line.specs.declared.asked.Job.{Job}
 use Rattle.ripngd_command_line.specs.declared.asked.Marking.{Marking}
 use Rattle.ripngd_command_line.specs.declared.asked.Order.{Order}
 use Rattle.ripngd_command_line.specs.declared.asked.Question.{Question}
 use Rattle.ripngd_command_line.specs.declared.asked.Ask.TheVariants as asks
+use Rattle.ripngd_command_line.specs.declared.asked.Job.TheVariants as jobs
 use Rattle.ripngd_command_line.specs.CommandLine.{ripngd}
 
 -- the number of a decimal text
@@ -63,9 +66,14 @@ IsFile (Some name) = name ≢ codes "-"
 abbrev pub GoesOnInNoFile : Order → Type 0
 GoesOnInNoFile order = IsTrue order.append × ¬ (IsFile (option_map (λ s. s.now) order.log))
 
+-- a capture has other options beside it, or would take the place of its script
+abbrev pub IsCapturedBadly : Capturing → Type 0
+IsCapturedBadly capturing = IsTrue capturing.mixed ⊎ (capturing.capture.now ≡ capturing.script.now)
+
 -- what is asked makes no sense, though clap takes each word of it, or has a number with a sign
-abbrev pub IsMisused : Ask → Type 0
-IsMisused (asks.Run order) = GoesOnInNoFile order ⊎ IsTrue order.signed
+abbrev pub IsMisused : Job → Type 0
+IsMisused (jobs.Ask (asks.Run order)) = GoesOnInNoFile order ⊎ IsTrue order.signed
+IsMisused (jobs.LabCapture capturing) = IsCapturedBadly capturing
 IsMisused _ = ⊥
 
 -- the rows of `lab` say that a script is marked: against an exercise, or by a count
@@ -109,7 +117,25 @@ IsAsked (asks.Ctl question) name rows = (name ≡ codes "ctl") × IsQuestion que
 IsAsked (asks.Table file) name rows =
     (name ≡ codes "table") × (first_of (codes "LOG") rows ≡ Some file.now)
 
+-- the rows of `lab` have an option beside that of a capture
+abbrev pub HasOtherOption : List Row → Type 0
+HasOtherOption rows = AreOfMarking rows ⊎ IsSet rows (codes "trace") ⊎ IsSet rows (codes "changes") ⊎ IsSet rows (codes "explain")
+
+-- the rows of `lab` say how a capture is made
+pub record IsCapturing (capturing : Capturing) (rows : List Row) : Type 0 where
+  pub capture : first_of (codes "pcap") rows ≡ Some capturing.capture.now
+  pub script : first_of (codes "SCRIPT") rows ≡ Some capturing.script.now
+  pub mixed : IsTrue capturing.mixed ↔ HasOtherOption rows
+
+-- the subcommand of this name, with the rows of its arguments, is this job: a capture is shown or made where `--pcap` is given
+abbrev pub IsJob : Job → Text → List Row → Type 0
+IsJob (jobs.Ask (asks.Show hex)) name rows = IsAsked (asks.Show hex) name rows × ¬ (IsSet rows (codes "pcap"))
+IsJob (jobs.Ask a) name rows = IsAsked a name rows × ((name ≡ codes "lab") → first_of (codes "pcap") rows ≡ None)
+IsJob (jobs.ShowCapture file) name rows =
+    (name ≡ codes "show") × (first_of (codes "HEX") rows ≡ Some file.now) × IsSet rows (codes "pcap")
+IsJob (jobs.LabCapture capturing) name rows = (name ≡ codes "lab") × IsCapturing capturing rows
+
 -- the words ask this
-abbrev pub Asks : List Text → Ask → Type 0
-Asks words a =
-    (met : Text × List Row) × (subcommand_of ripngd words ≡ Some met) × IsAsked a met.0 met.1
+abbrev pub Asks : List Text → Job → Type 0
+Asks words job =
+    (met : Text × List Row) × (subcommand_of ripngd words ≡ Some met) × IsJob job met.0 met.1

@@ -54,20 +54,21 @@ required name = record (optional name) { required = true }
 abbrev pub subcommand : Text → List Rule → App
 subcommand name rules = record { top = record (new_shape name) { rules = rules }; subs = [] }
 
--- `show HEX`
+-- `show [--pcap] HEX`
 abbrev pub show_command : App
-show_command = subcommand (codes "show") (required (codes "HEX") ∷ [])
+show_command = subcommand (codes "show") (flag (by_name (codes "pcap")) ∷ required (codes "HEX") ∷ [])
 
 -- `check CONFIG`
 abbrev pub check_command : App
 check_command = subcommand (codes "check") (required (codes "CONFIG") ∷ [])
 
--- `lab [--trace] [--explain] [--changes] [--against EXERCISE] [--count] SCRIPT`
+-- `lab [--trace] [--explain] [--changes] [--pcap FILE] [--against EXERCISE] [--count] SCRIPT`
 abbrev pub lab_command : App
 lab_command = subcommand (codes "lab") (
     flag (by_name (codes "trace"))
     ∷ flag (by_name (codes "explain"))
     ∷ flag (by_name (codes "changes"))
+    ∷ valued (by_name (codes "pcap"))
     ∷ valued (by_name (codes "against"))
     ∷ flag (by_name (codes "count"))
     ∷ required (codes "SCRIPT")

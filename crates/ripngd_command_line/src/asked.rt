@@ -1,7 +1,29 @@
 //! A parsed command line, and its faults that clap does not find.
 
 ghost use Rattle.std.specs.Prelude.{◌↔◌, IsSome};
-ghost use Rattle.ripngd_command_line.specs.Asked.{IsMisused};
+ghost use Rattle.ripngd_command_line.specs.Asked.{IsCapturedBadly, IsMisused};
+
+/// What the words of a command line ask for.
+#[derive(Clone, Copy, Debug, PartialEq, Eq)]
+pub enum Job<'a> {
+    /// A subcommand without a capture.
+    Ask(Ask<'a>),
+    /// `show --pcap FILE`: decodes the datagrams of a capture.
+    ShowCapture(&'a str),
+    /// `lab --pcap FILE SCRIPT`: runs a script, and makes a capture of it.
+    LabCapture(Capturing<'a>),
+}
+
+/// How `lab` makes a capture.
+#[derive(Clone, Copy, Debug, PartialEq, Eq)]
+pub struct Capturing<'a> {
+    /// The file that gets the capture.
+    pub capture: &'a str,
+    /// The file of the script.
+    pub script: &'a str,
+    /// Whether another option of `lab` is given, too.
+    pub mixed: bool,
+}
 
 /// A subcommand with its arguments, whose texts are words of the command line.
 #[derive(Clone, Copy, Debug, PartialEq, Eq)]
@@ -93,9 +115,34 @@ error: the number of an option is decimal digits alone, without a sign
 For more information, try '--help'.
 ";
 
-/// The message for a fault of the command line, if there is one: `--append` without a file, or a number with a sign.
-pub fn misuse_of(asked: Ask<'_>) -> Option<&'static str>
-    ensures { IsSome result ↔ IsMisused asked.entry }
+/// The message for `--pcap` with another option of `lab`.
+const CAPTURES_ALONE: &str = "\
+error: '--pcap' goes with no other option of 'lab'
+
+For more information, try '--help'.
+";
+
+/// The message for a capture that would be written over its script.
+const CAPTURES_ELSEWHERE: &str = "\
+error: the FILE of '--pcap' is SCRIPT itself
+
+For more information, try '--help'.
+";
+
+/// The message for a fault of the command line, if there is one: `--append` without a file, a number with a sign, or a capture beside
+/// other options, or in place of its script.
+pub fn misuse_of(job: Job<'_>) -> Option<&'static str>
+    ensures { IsSome result ↔ IsMisused job.entry }
+{
+    match job {
+        Job::Ask(asked) => misuse_of_ask(asked),
+        Job::LabCapture(capturing) => misuse_of_capture(capturing),
+        Job::ShowCapture(_) => None,
+    }
+}
+
+fn misuse_of_ask(asked: Ask<'_>) -> Option<&'static str>
+    ensures { IsSome result ↔ IsMisused (Job.Ask asked.entry) }
 {
     let Ask::Run(order) = asked else {
         return None;
@@ -104,6 +151,18 @@ pub fn misuse_of(asked: Ask<'_>) -> Option<&'static str>
         Some(APPEND_NEEDS_A_FILE)
     } else if order.signed {
         Some(NUMBERS_HAVE_NO_SIGN)
+    } else {
+        None
+    }
+}
+
+fn misuse_of_capture(capturing: Capturing<'_>) -> Option<&'static str>
+    ensures { IsSome result ↔ IsCapturedBadly capturing.entry }
+{
+    if capturing.mixed {
+        Some(CAPTURES_ALONE)
+    } else if capturing.capture == capturing.script {
+        Some(CAPTURES_ELSEWHERE)
     } else {
         None
     }

@@ -2,10 +2,10 @@
 
 ghost use Rattle.std.specs.Prelude.{◌≡◌, ◌≤◌, ◌↔◌, IfErr, IfOk, IfSome, IsTrue, List, Some, codes, map, option_map, true};
 ghost use Rattle.clap.specs.Words.{FailsBy, Row, Text, fault_of, first_of, found_of, kind_of, rows_of, subcommand_rows_of, takes};
-ghost use Rattle.ripngd_command_line.specs.Asked.{AreSeconds, Asks, HasNumber, HasSign, HasSignedOrder, IsAsked, IsSet};
+ghost use Rattle.ripngd_command_line.specs.Asked.{AreSeconds, Asks, HasNumber, HasSign, HasOtherOption, HasSignedOrder, IsAsked, IsJob, IsSet};
 ghost use Rattle.ripngd_command_line.specs.CommandLine.{ripngd};
 
-use crate::asked::{Ask, Marking, Order, Question};
+use crate::asked::{Ask, Capturing, Job, Marking, Order, Question};
 use crate::subcommands::command;
 use clap::error::ErrorKind;
 use clap::{ArgMatches, Error};
@@ -15,7 +15,7 @@ use std::alloc::{AllocError, Global};
 ///
 /// # Errors
 /// The error of clap, which help and the version are, too; or out of memory.
-pub fn ask<'a>(alloc: Global, words: &'a [&'a str]) -> Result<Ask<'a>, Error>
+pub fn ask<'a>(alloc: Global, words: &'a [&'a str]) -> Result<Job<'a>, Error>
     // The result is what the words give to the command.
     ensures asked { IfOk result (Asks (map (λ w. w.now) words.entry.now)) }
     // Words that the command takes are refused only when memory runs out.
@@ -30,22 +30,43 @@ pub fn ask<'a>(alloc: Global, words: &'a [&'a str]) -> Result<Ask<'a>, Error>
 }
 
 /// The subcommand, with its arguments.
-fn subcommand_asked<'a>(matches: &ArgMatches<'a>) -> Option<Ask<'a>>
-    ensures { IfSome result (λ a. (met : Text × List Row)
-        × (subcommand_rows_of matches.now ≡ Some met) × IsAsked a met.0 met.1) }
+fn subcommand_asked<'a>(matches: &ArgMatches<'a>) -> Option<Job<'a>>
+    ensures { IfSome result (λ job. (met : Text × List Row)
+        × (subcommand_rows_of matches.now ≡ Some met) × IsJob job met.0 met.1) }
 {
     let (name, inner) = matches.subcommand()?;
-    asked_of(name, inner)
+    job_of(name, inner)
 }
 
-/// The subcommand of a name, with the values of its arguments.
+/// The subcommand of a name, with or without a capture.
+fn job_of<'a>(name: &'a str, matches: &ArgMatches<'a>) -> Option<Job<'a>>
+    ensures { IfSome result (λ job. IsJob job name.entry.now (rows_of (found_of matches.now))) }
+{
+    match name {
+        "show" => show_asked(matches),
+        "lab" => lab_asked(matches),
+        _ => Some(Job::Ask(asked_of(name, matches)?)),
+    }
+}
+
+/// `show`, of digits or of a capture.
+fn show_asked<'a>(matches: &ArgMatches<'a>) -> Option<Job<'a>>
+    ensures { IfSome result (λ job. IsJob job (codes "show") (rows_of (found_of matches.now))) }
+{
+    let hex = text(matches, "HEX")?;
+    if is_set(matches, "pcap") {
+        Some(Job::ShowCapture(hex))
+    } else {
+        Some(Job::Ask(Ask::Show(hex)))
+    }
+}
+
+/// The subcommand of a name which has no capture, with the values of its arguments.
 fn asked_of<'a>(name: &'a str, matches: &ArgMatches<'a>) -> Option<Ask<'a>>
     ensures { IfSome result (λ a. IsAsked a name.entry.now (rows_of (found_of matches.now))) }
 {
     match name {
-        "show" => Some(Ask::Show(text(matches, "HEX")?)),
         "check" => Some(Ask::Check(text(matches, "CONFIG")?)),
-        "lab" => lab_asked(matches),
         "run" => run_asked(matches),
         "table" => Some(Ask::Table(text(matches, "LOG")?)),
         "ctl" => Some(Ask::Ctl(Question {
@@ -59,8 +80,34 @@ fn asked_of<'a>(name: &'a str, matches: &ArgMatches<'a>) -> Option<Ask<'a>>
     }
 }
 
-/// `lab`, with `--against` and `--count` before `--trace`, that before `--changes`, and that before `--explain`, if several are given.
-fn lab_asked<'a>(matches: &ArgMatches<'a>) -> Option<Ask<'a>>
+/// `lab`, with a capture or without.
+fn lab_asked<'a>(matches: &ArgMatches<'a>) -> Option<Job<'a>>
+    ensures { IfSome result (λ job. IsJob job (codes "lab") (rows_of (found_of matches.now))) }
+{
+    let script = text(matches, "SCRIPT")?;
+    match text(matches, "pcap") {
+        Some(capture) => Some(Job::LabCapture(Capturing {
+            capture,
+            script,
+            mixed: is_mixed(matches),
+        })),
+        None => Some(Job::Ask(plain_lab_asked(matches)?)),
+    }
+}
+
+/// Whether `lab` has an option beside that of a capture.
+fn is_mixed(matches: &ArgMatches<'_>) -> bool
+    ensures { IsTrue result ↔ HasOtherOption (rows_of (found_of matches.now)) }
+{
+    text(matches, "against").is_some()
+        || is_set(matches, "count")
+        || is_set(matches, "trace")
+        || is_set(matches, "changes")
+        || is_set(matches, "explain")
+}
+
+/// `lab` without a capture, with `--against` and `--count` before `--trace`, that before `--changes`, and that before `--explain`, if several are given.
+fn plain_lab_asked<'a>(matches: &ArgMatches<'a>) -> Option<Ask<'a>>
     ensures { IfSome result (λ a. IsAsked a (codes "lab") (rows_of (found_of matches.now))) }
 {
     let script = text(matches, "SCRIPT")?;

@@ -15,6 +15,10 @@ The first line is `request entries N` or `response entries N`. A line follows
 for each entry, numbered from 0: its prefix, route tag and metric, or its next
 hop. Bytes that are no RIPng datagram print `refused NR NAME` instead, and the
 exit status is 1.
+With `--pcap FILE` each datagram of RIPng in a capture has a line with its frame,
+time, addresses, ports and hop limit before those, and `refused NR NAME` says
+which test of a router it would fail. If the file is damaged, the last line says
+where, and the exit status is 1.
 
 Example:
   ripngd show 0201000020010db800000000000000000000000000002001";
@@ -35,6 +39,8 @@ each run of a script gives the same. Its lines `print` and `sent` print. The
 first line that is refused ends it, with exit status 1.
 With `--explain` a line of English for each event says what a router received,
 what it did, and why.
+With `--pcap FILE` all datagrams are written to a capture for Wireshark, with an
+interface for each link. No other option goes with it.
 With `--against` and `--count` a script is marked, and there is no `--trace`,
 `--explain` or `--changes`.
 

@@ -6,6 +6,6 @@ mod command_line;
 mod help;
 mod subcommands;
 
-pub use asked::{Ask, Marking, Order, Question, misuse_of};
+pub use asked::{Ask, Capturing, Job, Marking, Order, Question, misuse_of};
 pub use command_line::ask;
 pub use help::VERSION;

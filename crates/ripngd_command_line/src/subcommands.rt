@@ -8,13 +8,15 @@ use crate::help;
 use clap::{Arg, Command, arg, value_parser};
 use std::alloc::{AllocError, Global};
 
-/// `show HEX`.
+/// `show [--pcap] HEX`.
 fn show<'a>(alloc: Global) -> Result<Command<'a>, AllocError>
     ensures { IfOk result (λ c. IsCommand c show_command) }
 {
     Command::new(alloc, "show")
-        .about("Decode one datagram, given as hexadecimal digits")
+        .about("Decode a datagram, given as hexadecimal digits, or those of a capture")
         .after_help(help::SHOW)
+        .arg(arg!(in alloc; --pcap
+            "Decode the datagrams of RIPng in a file of pcap or pcapng, whose name stands for HEX"))?
         .arg(arg!(in alloc; <HEX> "Its bytes, two digits for each, in upper or lower case"))
 }
 
@@ -28,7 +30,7 @@ fn check<'a>(alloc: Global) -> Result<Command<'a>, AllocError>
         .arg(arg!(in alloc; <CONFIG> "The file of the configuration"))
 }
 
-/// `lab [--trace] [--explain] [--changes] [--against EXERCISE] [--count] SCRIPT`.
+/// `lab [--trace] [--explain] [--changes] [--pcap FILE] [--against EXERCISE] [--count] SCRIPT`.
 fn lab<'a>(alloc: Global) -> Result<Command<'a>, AllocError>
     ensures { IfOk result (λ c. IsCommand c lab_command) }
 {
@@ -41,6 +43,8 @@ fn lab<'a>(alloc: Global) -> Result<Command<'a>, AllocError>
             "Print each event as a line of English, beside what the script prints"))?
         .arg(arg!(in alloc; --changes
             "The same, without ticks and arrivals that change no forwarding table"))?
+        .arg(arg!(in alloc; --pcap <FILE>
+            "Write each datagram to FILE, a capture for Wireshark, beside what the script prints"))?
         .arg(arg!(in alloc; --against <EXERCISE>
             "Refuse SCRIPT unless it is EXERCISE, with one word for each `?`"))?
         .arg(arg!(in alloc; --count

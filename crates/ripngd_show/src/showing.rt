@@ -50,7 +50,7 @@ fn show_bytes<W: Write>(bytes: &[u8], out: &mut W) -> io::Result<bool>
 }
 
 /// Writes the head line, and then a line for each entry, numbered from 0.
-fn write_listing<W: Write>(out: &mut W, datagram: &Datagram<'_>) -> io::Result<()>
+pub(crate) fn write_listing<W: Write>(out: &mut W, datagram: &Datagram<'_>) -> io::Result<()>
     ensures { OnOk result (Appends (W.contents out.old) (W.contents out.new)
         (listing datagram.now.command datagram.now.entries)) }
 {

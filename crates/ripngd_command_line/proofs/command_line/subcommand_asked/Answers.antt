@@ -8,4 +8,4 @@ returns c =
     let name = c.in_ok-name.name.now in
     let rows = rows_of (found_of c.in_ok-name.inner.now) in
     let met = subcommand_met c.args.matches.now name rows c.in_ok-name.ensures.name c.in_ok-name.ensures.rows in
-    IfSome-weaker c.asked_of.result _ _ (λ a is. ((name, rows), met, is)) c.asked_of.ensures
+    IfSome-weaker c.job_of.result _ _ (λ a is. ((name, rows), met, is)) c.job_of.ensures
