@@ -2,35 +2,44 @@
 
 import asyncio
 import fcntl
-import functools
 import os
-import re
 import signal
-import subprocess
+import time
+from collections import Counter
 
+import asking
+import lines
 import privilege
 import sockets
 import status
+from check import taken
+from events import States
+from journal import log, say
 from kernel import Kernel
-from link import Link
-from router import Router, configuration, log, say, spawn
-from system import NO_FORWARDING, UP, WATCH, devices, forwards, state_of
+from plan import Plan
+from pulse import Pulse, notify
+from reload import changes, refuse_fixed
+from router import Router, configuration, spawn
+from system import devices
 from table import Fault
+from watch import Watch
 
 # Seconds that links are waited for at the start that try an address, and others; until what has failed is tried again; that an earlier
-# router's routes stay without being told again; and from one look at what nobody tells to the next.
-PATIENCE, SHORT, PAUSE, STAY, LOOK = 10, 3, 1, 10, 60
-# A change in the router's log.
-CHANGE = re.compile(r"(?:add|del) ([0-9a-f:]+/\d+)(?: metric \d+ (?:direct|via ([0-9a-f:]+) iface (\d+)))?")
-# A line of `ip monitor` on a device without a carrier.
-DOWN = re.compile(r"^\d+: ([^:@\s]+)[^<\n]*<(?!(?:[^>]*,)?LOWER_UP[,>])", re.M)
+# router's routes stay without being told again; in which changes of links are gathered, so that the router starts anew once for all of
+# them; and in which a router has told what it withdraws (RFC 2080, 2.5.1).
+PATIENCE, SHORT, PAUSE, STAY, GATHERS, TELLS = 10, 3, 1, 10, 0.3, 6
+# How many links are named at the start of a router.
+NAMED = 8
 
 
 def folder_of(table):
-    """Where configuration and sockets lie, of the user alone. It is locked as long as this process lives."""
+    """Where configuration and sockets lie, of the user alone, and what everybody may read who knows its name. It is locked as long as
+    this process lives."""
     folder = os.environ.get("RUNTIME_DIRECTORY") or table.folder
     try:
-        os.makedirs(folder, 0o700, exist_ok=True)
+        if not os.path.isdir(folder):
+            os.makedirs(folder)
+            os.chmod(folder, 0o711)
         fcntl.flock(os.open(folder, os.O_RDONLY), fcntl.LOCK_EX | fcntl.LOCK_NB)
         if os.geteuid() == 0:
             os.chown(folder, privilege.account_of(table.user).pw_uid, -1)
@@ -44,42 +53,48 @@ def folder_of(table):
 class Companion:
     """All of it; when it is made it drops its privileges."""
 
-    def __init__(self, table, has_kernel, debug):
-        self.table, self.debug = table, debug
+    def __init__(self, table, given):
+        self.table, self.debug, self.is_unproved, self.path = table, given.d, given.unproved, os.path.abspath(given.config)
+        os.umask(0o077)
         self.folder = folder_of(table)
-        self.kernel = Kernel(table.table, table.protocol, table.priority, has_kernel)
+        self.kernel = Kernel(table.table, table.protocol, table.priority, not given.no_kernel)
         self.router = Router(table.program, self.folder)
         sockets.claim()
-        self.links = [Link(place, link, self.router) for place, link in enumerate(table.link) if not link.stub]
-        privilege.drop(table.user, privilege.NET_RAW, *[privilege.NET_ADMIN] * has_kernel)
-        self.forwarding, self.owned, self.attached = {}, {}, {}
-        self.devices, self.stopping, self.fault, self.sweeping = {}, asyncio.Event(), None, None
-        # Of each device the state that was said last, once all are to be said; whether the system forwards; pairs on one link.
-        self.said, self.says_all, self.forwards, self.pairs = {}, False, None, set()
+        self.plan = Plan(table, self.router)
+        self.plan.follow(devices() or {})
+        privilege.drop(table.user, privilege.NET_RAW, *[privilege.NET_ADMIN] * self.kernel.is_used)
+        # The router's forwarding table, what it owns, its links with their keys, and which of them the table has no longer.
+        self.forwarding, self.owned, self.attached, self.left = {}, {}, {}, set()
+        self.stopping, self.hands_over, self.fault = asyncio.Event(), False, None
+        # What is to be done later, and in how many seconds the router starts anew.
+        self.sweeping, self.gathering, self.gathers = None, None, 0
+        # The states of links, and whether all of them are to be said; what is counted, since when; and what is looked at.
+        self.states, self.says_all, self.counts, self.began = States(), False, Counter(), time.monotonic()
+        self.watch, self.pulse = Watch(table.protocol), Pulse(self)
 
     async def run(self):
         """Everything until a signal ends it, or a fault does, which it answers."""
         loop = asyncio.get_running_loop()
         loop.set_exception_handler(lambda _, told: self.stop(told.get("exception") or Fault(told["message"], 3)))
-        for number in (signal.SIGTERM, signal.SIGINT, signal.SIGHUP, signal.SIGUSR1):
-            loop.add_signal_handler(number, self.count if number == signal.SIGUSR1 else self.stop)
-        await self.kernel.adopt([owned.prefix for owned in self.table.prefix if owned.prefix != "::/0"])
-        self.sweep_after(PATIENCE + STAY)
-        self.watch()
-        await asyncio.start_unix_server(functools.partial(status.answer, self), f"{self.folder}/{status.SOCKET}")
-        status.notify("READY=1")
-        self.check_forwarding()
-        loop.call_later(LOOK, self.check)
+        handlers = {"TERM": self.stop, "INT": self.stop, "HUP": self.reload, "USR1": self.count, "USR2": self.hand_over}
+        for name, handler in handlers.items():
+            loop.add_signal_handler(signal.Signals[f"SIG{name}"], handler)
+        log.start()
         self.ending = asyncio.create_task(self.stopping.wait())
-        keeper = asyncio.create_task(self.keep_router())
-        await asyncio.wait([keeper, self.ending], return_when=asyncio.FIRST_COMPLETED)
+        await self.kernel.adopt(self.nowhere())
+        self.sweep_after(PATIENCE + STAY)
+        loop.add_reader(self.watch.sock, self.heed)
+        self.look()
+        await asking.listen(self.folder, {"status": self.tell_status, "reload": self.tell_reload})
+        notify("READY=1")
+        pulse, keeper = asyncio.create_task(self.pulse.run()), asyncio.create_task(self.keep_router())
+        await asyncio.wait([keeper, pulse, self.ending], return_when=asyncio.FIRST_COMPLETED)
         self.stopping.set()
-        self.watching.kill()
-        await self.router.stop("stop")
-        await asyncio.wait([keeper])
-        await self.kernel.clear()
+        await self.router.stop(*["stop"] * (not self.hands_over))
+        await asyncio.wait([keeper, pulse])
+        await self.kernel.end(leaves=self.hands_over)
         self.count()
-        return self.fault or keeper.exception()
+        return self.fault or keeper.exception() or pulse.exception()
 
     def stop(self, fault=None):
         """Ends all, for that fault if there is one. What goes wrong while all ends is no fault."""
@@ -87,31 +102,50 @@ class Companion:
             self.fault = fault
             self.stopping.set()
 
+    def hand_over(self):
+        """Ends all but the kernel's routes, and tells no neighbor: another companion takes over."""
+        self.hands_over = True
+        self.stop()
+
+    def reload(self):
+        """Takes the table as it is in its file by now, or says why not, and leaves all as it was. Answers the fault and what changes."""
+        try:
+            table = taken(self.path, self.is_unproved)
+            refuse_fixed(self.table, table)
+        except Fault as fault:
+            self.counts["reloads_refused"] += 1
+            say(f"not reloaded, all goes on as it was: {fault}")
+            return fault, []
+        self.counts["reloads"] += 1
+        changed = list(changes(self.table, table))
+        say(f"reloaded: {', '.join(changed) or 'nothing has changed'}")
+        self.table = self.plan.table = table
+        self.kernel.own(self.nowhere())
+        self.look()
+        return None, changed
+
+    async def tell_reload(self):
+        """The same for a client."""
+        fault, changed = self.reload()
+        return {"fault": fault and str(fault), "changes": changed}
+
+    async def tell_status(self):
+        return await status.report(self)
+
+    def nowhere(self):
+        """What is always owned, so that packets to it go nowhere where they have no other way. ::/0 is no such thing."""
+        return [owned.prefix for owned in self.table.prefix if owned.prefix != "::/0"]
+
     def count(self):
         """Says what was counted."""
         say(f"kernel has {len(self.kernel.held)}, refused {len(self.kernel.refused)}")
 
-    def watch(self):
-        """Follows devices and addresses from now on; what happened before is looked at."""
-        self.watching = subprocess.Popen(WATCH, stdout=subprocess.PIPE, stderr=subprocess.STDOUT, preexec_fn=privilege.leave)
-        os.set_blocking(self.watching.stdout.fileno(), False)
-        asyncio.get_running_loop().add_reader(self.watching.stdout, self.moved, self.watching.stdout)
-        self.look()
-
-    def moved(self, pipe):
-        """Something happened to devices or addresses."""
-        told = pipe.read(1 << 16)
-        if told:
-            self.look(set(DOWN.findall(told.decode(errors="replace"))))
-        else:  # where a signal has ended it, that comes to this process, too
-            asyncio.get_running_loop().remove_reader(pipe)
-            asyncio.get_running_loop().call_later(PAUSE, self.watch_again)
-
-    def watch_again(self):
-        if not self.stopping.is_set():
-            say("`ip monitor` has ended, and is started again")
-            self.watching.wait()
-            self.watch()
+    def heed(self):
+        """Something happened to devices, addresses or routes."""
+        news = self.watch.read()
+        if news.is_moved:
+            self.look(news.were_down)
+        self.kernel.heed(news)
 
     def look(self, were_down=()):
         """Looks at devices and addresses anew; some had no carrier meanwhile, so the kernel forgot their routes."""
@@ -119,17 +153,18 @@ class Companion:
         if found is None:
             asyncio.get_running_loop().call_later(PAUSE, self.look)
             return
-        self.devices = found
-        for link in self.links:
-            self.look_at(link, link.link.device in were_down)
+        if self.plan.is_renamed(found):
+            self.kernel.mend()  # its routes have the other name, too
+        before = {link: link.device for link in self.plan.links.values()}
+        self.plan.follow(found, kept=self.attached)
+        for link in self.plan.links.values():
+            self.look_at(link, before.get(link), link.link.device in were_down)
         self.say_states()
-        self.own()
-        self.compare()
+        self.compare(TELLS if self.own() else GATHERS)
 
-    def look_at(self, link, was_down):
+    def look_at(self, link, old, was_down):
         """A link may have come up, or gone down."""
-        name, was_up, old = link.link.device, link.up, link.device
-        link.device = self.devices.get(name)
+        name, was_up, link.was_up = link.link.device, link.was_up, link.up
         here = {prefix: via for prefix, via in self.forwarding.items() if via and via[1] == link.number}
         if link.up and not (was_up and old.index == link.device.index and not was_down):
             self.forward(here, doubted=here)
@@ -142,60 +177,48 @@ class Companion:
             self.kernel.sweep(name)
             spawn(link.withdraw())
 
-    def state(self, words):
-        """Whether a link is up, or why it is not."""
-        if any(link.link is words and link.up and link not in self.present() for link in self.links):
-            return "has the address of another link in its zone"
-        return state_of(self.devices.get(words.device), words.stub)
-
     def say_states(self):
         """Says which devices are not there, and once the router is to start, which links are up or not, where that is news."""
-        for link in self.table.link:
-            state = self.state(link)
-            if state != self.said.get(link.device, UP) and (self.says_all or link.device not in self.devices):
-                self.said[link.device] = state
-                say(f"{link.device} {state}")
+        self.states.take(self.plan.states(), time.monotonic())
+        for line in self.states.news(lambda device: self.says_all or device not in self.plan.devices):
+            say(line)
 
-    def compare(self):
-        """Starts the router anew where the links that are up are not as it has them."""
-        changed = [link.link.device for link in self.present() if not self.suits(link)]
-        if self.attached and changed:
-            say(f"{', '.join(changed)} changed, so the router starts anew")
+    def compare(self, seconds):
+        """Where the links are not as the router has them, it is to start anew soon, once for all that changes meanwhile."""
+        changed = self.plan.differing(self.attached) or self.router.program != self.table.program
+        if self.attached and changed and seconds > self.gathers:
+            if self.gathering:
+                self.gathering.cancel()
+            self.gathering, self.gathers = asyncio.get_running_loop().call_later(seconds, self.start_anew), seconds
+
+    def start_anew(self):
+        """Ends the router, if its links are still not as it has them. It tells nobody, and the kernel keeps its routes."""
+        self.gathering, self.gathers = None, 0
+        changed = self.plan.differing(self.attached) or ["the program"] * (self.router.program != self.table.program)
+        if self.attached and changed and not self.stopping.is_set():
+            say(f"{', '.join(changed)} changed, so the router starts anew; packets are forwarded on")
             self.attached = {}
             spawn(self.router.stop())
 
-    def suits(self, link):
-        """Whether the router has that link with its address, and sends nothing there that is too long for it."""
-        address, mtu = self.attached.get(link, (None, 0))
-        return address == link.address and mtu <= link.device.mtu
-
-    def present(self):
-        """The links that a router would have, each with its address and MTU: of two with one address in one zone, the first."""
-        found, taken = {}, set()
-        for link in self.links:
-            if link.up and (link.zone, link.address) not in taken:
-                taken.add((link.zone, link.address))
-                found[link] = link.address, link.device.mtu
-        return found
-
-    def wanted(self):
-        """What the router is to own, with tags."""
-        found = {owned.prefix: owned.tag for owned in self.table.prefix}
-        for link in self.table.link:
-            device = self.devices.get(link.device)
-            if link.own and device and device.carrier:
-                found |= {str(prefix): link.tag for prefix in device.prefixes if str(prefix) not in found}
-        return found
-
     def own(self):
-        """Tells a router that runs what it owns from now on, and what no longer."""
-        if self.router.ready:
-            wanted = self.wanted()
-            told = [f"drop {prefix}" for prefix in self.owned if prefix not in wanted]
-            told += [f"gain {prefix} {tag}" for prefix, tag in wanted.items() if prefix not in self.owned]
-            self.owned = wanted
-            for command in told:
-                spawn(self.router.tell(command))
+        """Tells a router that runs what it owns from now on, what no longer, what its links cost, and which are gone. Answers whether it
+        has to tell its neighbors that it has withdrawn something."""
+        if not self.router.ready:
+            return False
+        wanted = self.plan.owned()
+        lost = [f"drop {prefix}" for prefix, tag in self.owned.items() if wanted.get(prefix) != tag]
+        told = [f"gain {prefix} {tag}" for prefix, tag in wanted.items() if self.owned.get(prefix) != tag]
+        self.owned = wanted
+        for number, (link, keys) in enumerate(self.attached.items()):
+            if link.link.device not in self.plan.links and link not in self.left:
+                self.left.add(link)
+                lost.append(f"link down {number}")
+            elif keys["cost"] != link.link.cost:
+                keys["cost"] = link.link.cost
+                told.append(f"cost {number} {link.link.cost}")
+        for command in lost + told:
+            spawn(self.router.tell(command))
+        return bool(lost)
 
     async def wait(self, seconds):
         """Pauses, but no longer than it is to run."""
@@ -209,7 +232,7 @@ class Companion:
     async def wait_for_links(self):
         """Waits a while for the links that may come up soon, and says which are not up then."""
         for tenths in range(PATIENCE * 10):
-            if self.stopping.is_set() or not any(self.is_awaited(link, tenths) for link in self.links):
+            if self.stopping.is_set() or not any(self.is_awaited(link, tenths) for link in self.plan.links.values()):
                 break
             await self.wait(0.1)
         self.says_all = True
@@ -219,10 +242,11 @@ class Companion:
         """Lets routers live, one after another, on the links that are there."""
         await self.wait_for_links()
         while not self.stopping.is_set():
-            self.attached = self.present()
-            if not self.attached:
+            if not self.plan.present():
                 await self.wait(0.1)
                 continue
+            self.plan.follow(self.plan.devices)  # what a pattern had, and is not there any longer, goes
+            self.attached = self.plan.present()
             try:
                 await self.live()
             except OSError as fault:
@@ -233,13 +257,16 @@ class Companion:
     async def live(self):
         """A router's whole life, on the links that are attached. What came while no router was there is old, and dropped: the
         router asks anew."""
-        self.owned, interfaces, given = self.wanted(), [], []
+        self.owned, self.router.program, self.left, given = self.plan.owned(), self.table.program, set(), []
         for number, link in enumerate(self.attached):
+            link.number = number
             link.sockets.drain()
-            interfaces.append(link.keys(number))
             given += link.sockets.keys().values()
+        text, names = configuration(self.attached.values(), self.owned), list(self.names().values())
+        self.counts["starts"] += 1
+        say(f"the router starts on {', '.join(names[:NAMED])}{f' and {len(names) - NAMED} more' * (len(names) > NAMED)}")
         try:
-            code = await self.router.live(configuration(interfaces, self.owned), given, self.debug, self.change, self.hear)
+            code = await self.router.live(text, given, self.debug, self.change, self.hear)
         finally:
             self.lose()
         if code in (1, 2):
@@ -252,7 +279,7 @@ class Companion:
         self.forwarding = {}
         self.kernel.expire()
         self.sweep_after(STAY)
-        for link in self.links:
+        for link in self.plan.links.values():
             link.number = None
 
     def sweep_after(self, seconds):
@@ -261,66 +288,38 @@ class Companion:
             self.sweeping.cancel()
         self.sweeping = asyncio.get_running_loop().call_later(seconds, self.kernel.sweep)
 
-    def check(self):
-        """Looks at what nobody tells: a lost event, routes that the kernel lacks, and what is set up wrong."""
-        asyncio.get_running_loop().call_later(LOOK, self.check)
-        self.look()
-        self.kernel.mend()
-        self.check_forwarding()
-        spawn(self.check_zones())
-        for link in self.links:
-            link.sockets.requests()  # old ones go
+    def names(self):
+        """The devices of the router's interfaces, by number."""
+        return {number: link.link.device for number, link in enumerate(self.attached)}
 
-    def check_forwarding(self):
-        """Says where the system forwards nothing."""
-        was, self.forwards = self.forwards, forwards()
-        if self.forwards is False and was is not False:
-            say(NO_FORWARDING)
-
-    async def check_zones(self):
-        """Says which devices are on one link: each hears the other, so that the router hears itself."""
-        heard = {link: await link.neighbors() for link in self.present()}
-        for one in heard:
-            for other in heard:
-                both = str(other.address) in heard[one] and str(one.address) in heard[other]
-                pair = frozenset((one.link.device, other.link.device))
-                if both and one.zone != other.zone and pair not in self.pairs:
-                    self.pairs.add(pair)
-                    say(f"{' and '.join(sorted(pair))} are on one link: write one `zone` for both, as zone = 1")
-
-    def hear(self, lines):
+    def hear(self, heard):
         """Lines of the router's standard error."""
-        for line in lines:
-            log.line(line)
+        for line in heard:
+            lines.say_line(line, self.names())
             if line.startswith("ripngd: running, "):
                 self.router.ready = bool(self.attached)
                 self.sweep_after(STAY)
                 self.own()
-                for link in self.links:
+                for link in self.plan.links.values():
                     spawn(link.inquire(is_first=True))
 
-    def change(self, lines):
+    def change(self, logged):
         """Lines of the router's log: changes of its forwarding table, in order."""
-        changed = {}
-        for line in lines:
-            if found := CHANGE.fullmatch(line):
-                prefix, via, number = found.groups()
-                changed[prefix] = via and (via, int(number))
-            elif line.startswith("refused "):
+        changed, others = lines.changes(logged)
+        for line in others:
+            if line.startswith("refused "):
                 say(f"{self.router.config}: {line}")
-        for prefix, via in changed.items():
+        self.counts["route_changes"] += len(logged) - len(others)
+        for prefix, change in changed.items():
+            if self.table.log_routes:
+                lines.say_change(prefix, change, self.names())
             self.forwarding.pop(prefix, None)
-            if via:
-                self.forwarding[prefix] = via
-        self.forward(changed)
+            if change and change[1]:
+                self.forwarding[prefix] = change[1:]
+        self.forward({prefix: change and change[1] and change[1:] for prefix, change in changed.items()})
 
     def forward(self, changed, doubted=()):
         """The kernel gets these entries, where there is a carrier; some it may have forgotten."""
-        self.kernel.change({prefix: self.hop(via) for prefix, via in changed.items()}, doubted)
-
-    def hop(self, via):
-        """Gateway and device, in words of `ip`, or None."""
-        for link in self.links:
-            if via and link.number == via[1] and link.up:
-                return f"via {via[0]} dev {link.link.device}"
-        return None
+        devices = {link.number: link.link.device for link in self.plan.links.values() if link.up}
+        hops = {prefix: f"via {via[0]} dev {devices[via[1]]}" if via and via[1] in devices else None for prefix, via in changed.items()}
+        self.kernel.change(hops, doubted)

@@ -2,12 +2,13 @@
 
 import asyncio
 
-from router import say
+from journal import say
 from sockets import Sockets
 
-# Seconds from one question to the next while nobody answers a link that has come up, whose neighbors may be slower; and from one
-# time to the next that the router is told that a link is down: what came before may still wait in its sockets.
-PATIENCE, DOWN = (0, 2, 3), (0, 1)
+# Seconds from one question to the next on a link that has come up, whose neighbors may be slower; how many of them are asked whatever
+# was heard, since an update is no answer; and seconds from one time to the next that the router is told that a link is down: what came
+# before may still wait in its sockets.
+PATIENCE, ALWAYS, DOWN = (0, 2, 3), 2, (0, 1)
 # Zones that a table may name (RFC 4007, section 6); a link that names none is a zone of its own, behind these.
 NAMED = 255
 
@@ -15,25 +16,34 @@ NAMED = 255
 class Link:
     """A device, and the router's interface of that number on it."""
 
-    def __init__(self, place, words, router):
-        self.link, self.router, self.sockets = words, router, Sockets(words.device, words.queries)
-        self.zone = words.zone or NAMED + 1 + place
-        self.device, self.number = None, None
+    def __init__(self, words, own_zone, router):
+        self.link, self.own_zone, self.router = words, own_zone, router
+        self.sockets = Sockets(words.device, words.queries)
+        # Its device, whether it was up when it was looked at, and the router's interface of it.
+        self.device, self.was_up, self.number = None, False, None
+
+    @property
+    def zone(self):
+        return self.link.zone or self.own_zone
 
     @property
     def up(self):
-        return bool(self.device and self.device.carrier and self.device.link_local)
+        return bool(self.device and self.device.carrier and self.device.link_local and not self.device.bridge)
 
     @property
     def address(self):
         """The router's address on the link: the one from which the kernel sends."""
         return self.device.link_local
 
-    def keys(self, number):
-        """What the router's configuration says of it, at that number."""
-        self.number = number
+    def keys(self):
+        """What a router's configuration would say of it."""
         keys = {"address": str(self.address), "cost": self.link.cost, "mtu": min(self.device.mtu, 65535), "zone": self.zone}
         return keys | self.link.lists() | self.sockets.keys()
+
+    def close(self):
+        """It is no link any longer. A router that runs has its sockets until it ends."""
+        self.number = None
+        self.sockets.close()
 
     def follow(self):
         """The link has a carrier: its sockets are those of the device, and hear the group."""
@@ -57,18 +67,19 @@ class Link:
 
     async def neighbors(self):
         """How many Responses the router has taken of each neighbor, by address."""
-        found = (line.split() for line in await self.router.neighbors())
-        return {words[3]: int(words[7]) for words in found if words[:2] == ["iface", str(self.number)]}
+        return (await self.router.neighbors()).get(self.number, {})
 
     async def inquire(self, is_first=False):
-        """Has the router answer and ask a link that has come up, and again while nobody answers: who does not hear yet is asked later. A
-        router that has just started has asked once by itself."""
-        before = 0 if is_first else sum((await self.neighbors()).values())
+        """Has the router answer and ask a link that has come up, and once more when both ends have an address, and again if nobody says
+        anything then. A router that has just started has asked once by itself, and asks only if nobody does."""
+        asked, before = ALWAYS if is_first else 0, 0
         for pause in PATIENCE[is_first:]:
             await asyncio.sleep(pause)
             self.repeat()
-            if self.is_there(True) and sum((await self.neighbors()).values()) <= before:
+            heard = sum((await self.neighbors()).values())
+            if self.is_there(True) and (asked < ALWAYS or heard <= before):
                 await self.router.tell(f"link up {self.number}")
+                asked, before = asked + 1, heard
 
     async def withdraw(self):
         """The link has no carrier: the router withdraws what it learned there."""

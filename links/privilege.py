@@ -1,5 +1,5 @@
-"""What a process may do: once all sockets are open the companion CAP_NET_RAW, to give them a device that is made anew, and with `ip`
-CAP_NET_ADMIN; the router nothing."""
+"""What a process may do: the companion CAP_NET_RAW, to give sockets a device that is made anew, CAP_NET_BIND_SERVICE, to open those of
+further links, and with `ip` CAP_NET_ADMIN; the router nothing."""
 
 import ctypes
 import os
@@ -10,7 +10,7 @@ import struct
 
 from table import Fault
 
-NET_ADMIN, NET_RAW = 12, 13
+BIND, NET_ADMIN, NET_RAW = 10, 12, 13
 NAMES = {NET_ADMIN: "CAP_NET_ADMIN", NET_RAW: "CAP_NET_RAW"}
 # Of prctl(2): PR_SET_PDEATHSIG, PR_SET_KEEPCAPS, PR_CAPBSET_DROP, PR_SET_NO_NEW_PRIVS, PR_CAP_AMBIENT and two more.
 DEATH_SIGNAL, KEEP, DROP_BOUND, NO_NEW_PRIVILEGES, AMBIENT, RAISE, CLEAR_ALL = 1, 8, 24, 38, 47, 2, 4
@@ -27,7 +27,14 @@ def keep(*capabilities):
     bits = sum(1 << capability for capability in capabilities)
     prctl(AMBIENT, CLEAR_ALL)
     if libc.capset(struct.pack("=Ii", VERSION_3, 0), struct.pack("=6I", bits, bits, bits, 0, 0, 0)) != 0:
-        raise Fault(f"needs {' and '.join(NAMES[capability] for capability in capabilities)}", 3)
+        raise Fault(f"needs {' and '.join(NAMES[capability] for capability in capabilities if capability in NAMES)}", 3)
+
+
+def is_permitted(capability):
+    """Whether this process has it."""
+    bits = ctypes.create_string_buffer(24)
+    libc.capget(struct.pack("=Ii", VERSION_3, 0), bits)
+    return bool(struct.unpack("=6I", bits)[1] >> capability & 1)
 
 
 def account_of(user):
@@ -39,12 +46,13 @@ def account_of(user):
 
 
 def drop(user, *capabilities):
-    """From here on this process is that user, where root started it, and has just these capabilities; and as many files as the
-    system lets it, for the sockets of the links, which the router has twice."""
+    """From here on this process is that user, where root started it, and has just these capabilities, and CAP_NET_BIND_SERVICE if it
+    had it: the system may give port 521 to everybody. It may have as many files as the system lets it, for the sockets of the links,
+    which the router has twice."""
+    capabilities += (BIND,) * is_permitted(BIND)
     most = resource.getrlimit(resource.RLIMIT_NOFILE)[1]
     resource.setrlimit(resource.RLIMIT_NOFILE, (most, most))
-    if os.geteuid() == 0:
-        account = account_of(user)
+    if os.geteuid() == 0 and (account := account_of(user)).pw_uid != 0:
         for capability in set(range(64)) - set(capabilities):
             prctl(DROP_BOUND, capability)
         prctl(KEEP, 1)

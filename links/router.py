@@ -7,7 +7,9 @@ import os
 import pathlib
 import shutil
 import subprocess
+import time
 
+from journal import say
 from privilege import leave
 from table import Fault
 
@@ -31,9 +33,11 @@ def fault_of(program, text):
     """What the router says of a configuration that it refuses, or None."""
     words = [program, "check", "/dev/stdin"]
     try:
-        done = subprocess.run(words, input=text, capture_output=True, text=True, check=False)
+        done = subprocess.run(words, input=text, capture_output=True, text=True, check=False, timeout=PATIENCE)
     except OSError as fault:
         raise Fault(f"cannot start {program}: {fault.strerror}") from None
+    except subprocess.TimeoutExpired:
+        return f"nothing for {PATIENCE} seconds"
     return None if done.returncode == 0 else done.stdout.strip() or done.stderr.strip()
 
 
@@ -47,34 +51,6 @@ def refuse_unproved(program):
         raise Fault(f"cannot read {fault.filename}: {fault.strerror}") from None
     if f"program {found}" not in mark.splitlines():
         raise Fault(f"{program} is not the proved program of this ripngd-links, and is taken only with --unproved")
-
-
-class Log:
-    """Standard error. Where it cannot be written, lines are lost, and counted: that is no reason to end."""
-
-    lost, said = 0, 0
-
-    def line(self, text):
-        """Writes a line, and how many were lost just before it."""
-        if self.lost > self.said and self.write(f"ripngd-links: lost {self.lost - self.said} lines of this log\n"):
-            self.said = self.lost
-        self.lost += not self.write(f"{text}\n")
-
-    @staticmethod
-    def write(text):
-        """Whether it was written. No buffer keeps it, so that nothing of it fails at the end."""
-        try:
-            os.write(2, text.encode())
-        except OSError:
-            return False
-        return True
-
-
-log = Log()
-
-
-def say(text):
-    log.line(f"ripngd-links: {text}")
 
 
 def spawn(coroutine, running=set()):
@@ -101,6 +77,8 @@ class Router:
     def __init__(self, program, folder):
         self.program, self.config, self.control = program, f"{folder}/router.toml", f"{folder}/control"
         self.process, self.ready, self.turn, self.asked = None, False, asyncio.Lock(), None
+        # When the process began, and when it answered last.
+        self.began, self.answered = float("-inf"), float("-inf")
 
     async def live(self, text, sockets, debug, changed, said):
         """Runs the process with those sockets, and answers its status. `changed` is given the lines of its log, `said` all others."""
@@ -110,7 +88,7 @@ class Router:
         pipes = {"stdin": subprocess.DEVNULL, "stdout": subprocess.PIPE, "stderr": subprocess.PIPE}
         own = {"umask": 0o077, "start_new_session": True, "preexec_fn": leave}
         try:
-            self.process = subprocess.Popen(words, **pipes, **own, pass_fds=sockets)
+            self.process, self.began = subprocess.Popen(words, **pipes, **own, pass_fds=sockets), time.monotonic()
         except (FileNotFoundError, PermissionError) as fault:
             raise Fault(f"cannot start {self.program}: {fault.strerror}") from None
         await asyncio.gather(self.listen(self.process.stdout, changed), self.listen(self.process.stderr, said))
@@ -124,29 +102,60 @@ class Router:
             *lines, rest = (rest + data).split(b"\n")
             heard([line.decode(errors="replace") for line in lines])
 
-    async def tell(self, command):
-        """The lines of the answer to a command of `ctl`, and the last one, which is `ok` or says what was refused."""
+    def is_there(self):
+        """Whether its process is."""
+        return self.process is not None and self.process.poll() is None
+
+    def age(self, now):
+        """For how many seconds the process is there; 0 where there is none."""
+        return round(now - self.began, 1) if self.is_there() else 0
+
+    async def ask(self, command, seconds=PATIENCE):
+        """The lines of the answer to a command of `ctl`, of which the last one is `ok` or says what was refused; none of a router that does
+        not answer within that time."""
         try:
-            async with self.turn, asyncio.timeout(PATIENCE):
+            async with self.turn, asyncio.timeout(seconds):
                 reader, writer = await asyncio.open_unix_connection(self.control)
                 try:
                     writer.write(command.encode() + b"\n")
-                    *lines, verdict = (await reader.read()).decode().splitlines()
+                    lines = (await reader.read()).decode().splitlines()
                 finally:
                     writer.close()
         except (OSError, ValueError):
-            lines, verdict = [], "no whole answer"
-        if verdict != "ok":
-            say(f"{command}: {verdict}")
-        return lines, verdict
+            return []
+        self.answered = time.monotonic()
+        return lines
+
+    async def status(self, seconds):
+        """The lines of `ctl status`; none of a router that does not come to answer within that time."""
+        try:
+            async with asyncio.timeout(seconds):
+                return await self.ask("status") if self.ready else []
+        except TimeoutError:
+            return []
+
+    async def tell(self, command):
+        """Has the router do that, and says so where it does not."""
+        lines = await self.ask(command)
+        if lines[-1:] != ["ok"]:
+            say(f"the router does not take `ctl {command}`: {lines[-1] if lines else f'no answer for {PATIENCE} s'}")
+        return lines[:-1]
 
     async def neighbors(self):
-        """Lines on all neighbors; links that ask at one time share an answer."""
+        """Of each interface, how many Responses the router has taken of each neighbor, by address; links that ask at one time share an
+        answer."""
         if not self.ready:
-            return []
+            return {}
         if not self.asked or self.asked.done():
-            self.asked = asyncio.ensure_future(self.tell("neighbors"))
-        return (await asyncio.shield(self.asked))[0]
+            self.asked = asyncio.ensure_future(self.ask_neighbors())
+        return await asyncio.shield(self.asked)
+
+    async def ask_neighbors(self):
+        found = {}
+        for words in map(str.split, await self.ask("neighbors")):
+            if words[:1] == ["iface"]:
+                found.setdefault(int(words[1]), {})[words[3]] = int(words[7])
+        return found
 
     def stop(self, command="stop now"):
         """Ends the process by that command, where it listens. From now on it is not ready."""

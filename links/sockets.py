@@ -2,6 +2,7 @@
 to an address of this router, or to the group with hop limit 255, or to the group with any other. A fourth keeps Requests, to be given to
 the router once more."""
 
+import contextlib
 import ctypes
 import socket
 import struct
@@ -162,6 +163,13 @@ class Sockets:
         with socket.socket(socket.AF_INET6, socket.SOCK_RAW, socket.IPPROTO_RAW) as sock:
             for (source, port), data in self.requests().items():
                 sock.sendto(packet(data, IPv6Address(source.split("%")[0]), port, to), (str(to), 0, 0, self.index))
+
+    def close(self):
+        """Nothing more is heard or sent here, also not by a router that has inherited them: its duplicates are on loopback, too."""
+        for sock in [*self.sockets.values(), self.early]:
+            with contextlib.suppress(OSError):  # a kernel without that right keeps them where they are
+                sock.setsockopt(socket.SOL_SOCKET, socket.SO_BINDTODEVICE, LOOPBACK)
+            sock.close()
 
     def keys(self):
         """What the router's configuration says of them."""

@@ -1,5 +1,6 @@
 """The companion's table: a TOML text that says which links of the system are the router's, and what it owns."""
 
+import re
 import tomllib
 from dataclasses import dataclass, field, fields
 from ipaddress import IPv6Network
@@ -14,9 +15,13 @@ class Fault(Exception):
         self.status = status
 
 
+# What is nobody's to route: an address of IPv4 in the bits of IPv6, with ::1 and :: among them (RFC 4291, 2.5.2, 2.5.3 and 2.5.5).
+MARTIANS = ["::/96+", "::ffff:0:0/96+"]
+
+
 @dataclass
 class Link:
-    """A link of the system."""
+    """A link of the system, or all whose devices match a pattern."""
 
     device: str
     cost: int = 1
@@ -28,10 +33,25 @@ class Link:
     accept: list[str] = field(default_factory=list)
     reject: list[str] = field(default_factory=list)
     limit: int = 0
+    martians: bool = False
+    passive: bool = False
+    announce: list[str] = field(default_factory=list)
+    announce_not: list[str] = field(default_factory=list)
+
+    @property
+    def is_pattern(self):
+        return bool(set("*?") & set(self.device))
+
+    def matches(self, name):
+        """Whether a device of that name fits the pattern: `*` stands for any characters, `?` for one."""
+        return re.fullmatch(re.escape(self.device).replace(r"\*", ".*").replace(r"\?", "."), name) is not None
 
     def lists(self):
-        """What the router is to take of it, in keys of its configuration; none of them says all."""
-        return {key: value for key in ("accept", "reject", "limit") if (value := getattr(self, key))}
+        """What the router is to take of it and to tell there, in keys of its configuration; none of them says all."""
+        refused = [one for one in MARTIANS if not self.martians and one not in self.reject]
+        lists = {"accept": self.accept, "reject": self.reject + refused, "limit": self.limit}
+        lists |= {"passive": self.passive, "announce": self.announce, "announce_not": self.announce_not}
+        return {key: value for key, value in lists.items() if value}
 
 
 @dataclass
@@ -52,6 +72,7 @@ class Table:
     table: int = 254
     protocol: int = 152
     priority: int = 2048
+    log_routes: bool = False
     link: list[dict] = field(default_factory=list)
     prefix: list[dict] = field(default_factory=list)
 
@@ -116,7 +137,7 @@ def checked(table):
     table.link = [made(Link, words, f"link[{number}].") for number, words in enumerate(table.link)]
     table.prefix = [made(Owned, words, f"prefix[{number}].") for number, words in enumerate(table.prefix)]
     for number, link in enumerate(table.link):
-        for key in ("accept", "reject"):
+        for key in ("accept", "reject", "announce", "announce_not"):
             place, texts = f"link[{number}].{key}", getattr(link, key)
             setattr(link, key, [pattern_of(text, f"{place}[{at}]") for at, text in enumerate(texts)])
     for number, owned in enumerate(table.prefix):
