@@ -62,7 +62,7 @@ def a_router_is_asked(case):
     answers(east, "routes", f"{EAST} metric 1 tag 9 own fixed\n{WEST} metric 2 tag 9 via fe80::f iface 0 from fe80::f live T\n")
     answers(east, "table", f"{EAST} metric 1 direct\n{WEST} metric 2 via fe80::f iface 0\n")
     answers(west, "table", f"{EAST} metric 2 via fe80::e iface 0\n{WEST} metric 1 direct\n")
-    answers(west, "counts", "arrivals A sends S failed 0\nlost sends 0 steps 0 arrivals 0\nstrangers 0\n")
+    answers(west, "counts", "arrivals A sends S failed 0\nlost sends 0 steps 0 arrivals 0\nstrangers 0\nasked 0\n")
     live = int(re.search(r" live (\d+)", east.ctl("routes").out)[1])
     same("whether a route lives up to 180 seconds", 100_000 < live <= 180_000, True)
 
@@ -92,8 +92,9 @@ def a_router_says_how_it_is(case):
     first, second, rest = told.out.split("\n", 2)
     same("the interface", first, "interface 0 address fe80::e cost 1 mtu 1280")
     same("whether it has a clock and two routes", re.fullmatch(r"now [1-9]\d* routes 2", second) is not None, True)
-    both = east.ctl("counts").out + east.ctl("neighbors").out
-    same("the rest, but for numbers", re.sub(r"\d+", "N", rest), re.sub(r"\d+", "N", both))
+    *counts, asked = east.ctl("counts").out.splitlines(True)
+    said = "".join(counts) + east.ctl("neighbors").out + asked
+    same("the rest, but for numbers", re.sub(r"\d+", "N", rest), re.sub(r"\d+", "N", said))
 
 
 @listed
@@ -110,6 +111,7 @@ def a_router_is_told(case):
     refuses(east, "cost 0 16", "31 BadCost")
     refuses(east, "cost 1 5", "51 NoSuchInterface")
     refuses(east, "cost 0", "52 NoSuchCommand: cost INTERFACE COST")
+    refuses(east, "status text", "52 NoSuchCommand: status [json]")
     answers(east, "cost 0 5")
     answers(west, "gain 2001:db8:2::/48 7")
     east.logs("add 2001:db8:2::/48 metric 6 via fe80::f iface 0")
@@ -180,7 +182,7 @@ def a_log_that_has_failed_is_counted_and_the_router_goes_on(case):
     router = alone(case, "full", "-R", "/dev/full")
     answers(router, "gain ::/0 7")
     answers(router, "table", f"::/0 metric 1 direct\n{OWN_TABLE}")
-    same("whether it is counted", router.ctl("counts").out.endswith("\nlog failed\n"), True)
+    same("whether it is counted", router.ctl("counts").out.endswith("\nlog failed\nasked 0\n"), True)
     port = case.port()
     answers(router, f"peer 0 fe80::f {port}")
     refuses(router, f"peer 0 fe80::f {port}", "64 PeerTwice")

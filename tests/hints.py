@@ -38,8 +38,8 @@ LISTED = ("router NAME", "router quiet NAME", "router quiet", "router", "iface A
 OBEYED = ("deliver N R I NOW", "stranger R I NOW SOURCE PORT HOP TO HEX", "ask R I NOW SOURCE PORT ASKED", "liar R I NOW SOURCE HEX",
           "liar R I NOW SOURCE PREFIX HOPS", "tick R NOW WORD", "tick R NOW", "tell R NOW WORD but K ..", "tell R NOW WORD", "tell R NOW but K ..",
           "tell R NOW", "hear but K ..", "hear", "restart R NOW", "shutdown R NOW", "cost R I NOW COST",
-          "gain R NOW PREFIX TAG", "drop R NOW PREFIX", "round NOW", "rounds ROUNDS NOW GAP", "phases PHASES SEED", "horizon R HORIZON", "silent R",
-          "speaks R",
+          "gain R NOW PREFIX TAG", "drop R NOW PREFIX", "round NOW", "rounds ROUNDS NOW GAP", "phases PHASES SEED", "horizon R HORIZON", "asking off",
+          "asking", "silent R", "speaks R",
           "cut LINK", "mend LINK", "down LINK NOW", "up LINK NOW", "costs LINK NOW COST", "lose N", "print R PREFIX", "print R", "print",
           "sent N", "sent", "say TEXT", "expect R PREFIX METRIC", "expect path R ADDR FATE", "path R ADDR", "refused REFUSAL")
 

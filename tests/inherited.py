@@ -29,6 +29,8 @@ from suite import Failed, named, play, same
 LIBC = ctypes.CDLL(None, use_errno=True)
 NEW_NETWORK = 0x40000000
 HOP_LIMITS = socket.IPV6_MULTICAST_HOPS, socket.IPV6_UNICAST_HOPS
+FOREIGN = 78
+"""The option IPV6_FREEBIND, which Python has no name for: a socket may have an address that its device has not."""
 LEARNED = "2001:db8:1::/48"
 NEWS = response(entry(LEARNED, 1))
 TEACHER = ("fe80::5", PORT)
@@ -98,10 +100,11 @@ class Cable:
         return list(self.sockets.keys().values())
 
     def socket(self, source="fe80::5", port=PORT):
-        """A socket of a neighbor."""
+        """A socket of a neighbor, or of nobody: then no answer finds it."""
         with self.there:
             opened = socket.socket(socket.AF_INET6, socket.SOCK_DGRAM)
         opened.setsockopt(socket.SOL_SOCKET, socket.SO_REUSEADDR, 1)
+        opened.setsockopt(socket.IPPROTO_IPV6, FOREIGN, 1)
         opened.setsockopt(socket.IPPROTO_IPV6, socket.IPV6_MULTICAST_LOOP, 0)
         opened.setsockopt(socket.IPPROTO_IPV6, socket.IPV6_MULTICAST_IF, self.index)
         opened.bind((source, port, 0, self.index if source.startswith("f") else 0))
@@ -123,6 +126,12 @@ class Cable:
             opened.sendto(bytes, (to, PORT, 0, self.index if to.startswith("f") else 0))
             if bytes == REQUEST:
                 return opened.recvfrom(65_536)[1][:2]
+
+    def ask(self, source):
+        """A Request of an address that nobody need have."""
+        with self.socket(source) as opened:
+            opened.setsockopt(socket.IPPROTO_IPV6, socket.IPV6_MULTICAST_HOPS, 255)
+            opened.sendto(REQUEST, (str(GROUP), PORT, 0, self.index))
 
 
 @contextlib.contextmanager
@@ -313,6 +322,65 @@ def a_link_that_is_flooded_takes_nothing_from_another(case):
                 flood.sendto(NEWS, (str(GROUP), PORT, 0, one.index))
         other.send(NEWS)
         router.logs(f"add {LEARNED} metric 2 via fe80::5 iface 1")
+
+
+def hears(opened, route):
+    """Waits until an update that a socket hears has that route: for five seconds at most."""
+    end = time.monotonic() + 5
+    opened.settimeout(5)
+    while entry(route, 1) not in opened.recv(65_536):
+        same("whether it is in time", time.monotonic() < end, True)
+
+
+@listed
+def answers_that_the_system_keeps_keep_no_update(case):
+    """Who asked cannot be found for three seconds, and its answer fills the socket. What goes to the group goes by another one."""
+    with cables(case) as [cable]:
+        cable.sockets.sockets["descriptor"].setsockopt(socket.SOL_SOCKET, socket.SO_SNDBUF, 1)
+        with cable.group() as heard:
+            router = begun(case, cable.table() + owned(300))
+            cable.ask("fe80::bad")
+            until("an answer", lambda: "arrivals 1 " in router.ctl("counts").out)
+            router.ctl("gain", LEARNED, "0")
+            hears(heard, LEARNED)
+
+
+@listed
+def who_asks_without_end_keeps_no_update(case):
+    """200 Requests a second come from addresses that nobody has, for more than the five seconds that an update may be put off (RFC 2080,
+    section 2.5.1). The answer to each takes 17 datagrams, so 0.05 seconds."""
+    with cables(case, 2) as [one, other]:
+        with one.group() as near, other.group() as far:
+            router = begun(case, one.table(zone=1) + other.table(zone=2) + owned(1000))
+            for number in range(1_200):
+                one.ask(f"fe80::bad:{number:x}")
+                time.sleep(0.005)
+            router.ctl("gain", LEARNED, "0")
+            hears(near, LEARNED)
+            hears(far, LEARNED)
+            lost = int(re.search(r"arrivals (\d+)$", router.ctl("counts").out, re.M)[1])
+            same(f"whether {lost} of 1,200 Requests were lost", 300 < lost < 1_200, True)
+
+
+# Of the lines of neighbors.
+
+@listed
+def a_line_passes_from_a_sender_that_is_silent_to_a_neighbor(case):
+    """Of 100 made-up senders and then a neighbor, each with a Response, the neighbor has a line. Hosts that only ask do not take it."""
+    made_up, hosts = ([f"fe80::{kind}:{number:x}" for number in range(100)] for kind in (1, 2))
+    with cables(case, 1, (*made_up, *hosts)) as (cable,):
+        router = begun(case, cable.table())
+        for source in made_up:
+            cable.send(NEWS, source)
+        cable.send(NEWS)
+        until("heard", lambda: router.ctl("counts").out.startswith("arrivals 101 "))
+        for source in hosts:
+            cable.send(b"\1\1\0\0", source)
+        until("asked", lambda: router.ctl("counts").out.startswith("arrivals 201 "))
+        lines = [line.split() for line in router.ctl("neighbors").out.splitlines() if " arrivals " in line]
+        same("the last line of a neighbor", lines[-2][:8], "iface 0 from fe80::5 arrivals 1 responses 1".split())
+        same("the lines", [line[3] for line in lines[:-1]], [*made_up[-63:], "fe80::5"])
+        same("all others", lines[-1][:5], "others arrivals 137 responses 37".split())
 
 
 def play_within(name, program, folder):

@@ -5,7 +5,8 @@ laboratory.
     tests/premises.py PROGRAM [NAME..]      all checks, or those that have NAME in theirs
 
 A check is one field of one definition of crates/*/specs, by its name there. A line for each that fails, and last how many passed. Where a
-field fails of an honest run, no theorem speaks of that run.
+field fails of an honest run, no theorem speaks of that run. When a router asks its neighbors by itself is no premise, but proved of it; it
+is checked, too.
 
 The routers are the program, each a process of its own. Its calls of the system are noted by a library (tests/recorded/calls.c). The ring
 runs by the clock of the system, and by a clock of the test's own (tests/recorded/conductor.py), on which half an hour takes seconds. Then
@@ -18,9 +19,9 @@ import threading
 
 sys.dont_write_bytecode = True
 from networks import lab
-from recorded import faults, links, scenes, scripted, times, trace_faults
+from recorded import faults, links, questions, scenes, scripted, times, trace_faults
 from recorded.recent import RECENT
-from recorded.replayed import replayed
+from recorded.replayed import replayed, sized
 from recorded.times import Stretch
 from recorded.traces import Trace
 from suite import Failed, named, play
@@ -71,7 +72,7 @@ def lives(program, history):
 
 def safety_of(program, history):
     """What is asked of any history."""
-    return [*of(links.FIELDS, history), *lives(program, history)]
+    return [*of(links.FIELDS, history), *of(questions.FIELDS, history), *lives(program, history)]
 
 
 def checks_of_half_an_hour(program, history):
@@ -99,7 +100,7 @@ def is_cut_off(program, history):
 
 
 def checks_of_killed(program, history):
-    completed = once(lambda: scenes.whole(program, history()))
+    completed = once(lambda: sized(program, scenes.whole(program, history())))
     return [("as it was noted", lambda: is_cut_off(program, history())), *safety_of(program, completed), *of_stretch(times.ANYHOW, completed)]
 
 
@@ -118,7 +119,7 @@ def is_named(found, fields):
 
 
 def with_fault(history):
-    return [*of(links.FIELDS, history), *of_stretch(times.GOES_ON, history, *from_to(*scenes.CALM)),
+    return [*of(links.FIELDS, history), *of(questions.FIELDS, history), *of_stretch(times.GOES_ON, history, *from_to(*scenes.CALM)),
             *of_stretch(times.GOES_ON, history, *from_to(scenes.QUIET, PLANTED - 5_000)), *of_stretch(times.ANYHOW, history),
             *of_stretch(times.ANYHOW, history, *from_to(scenes.QUIET))]
 
@@ -194,8 +195,8 @@ def case_of(title, name, check):
 
 def main(program, *names):
     program = str(pathlib.Path(program).resolve(strict=True))
-    half, some, killed = (once(functools.partial(scenes.played, program, scene))
-                          for scene in (scenes.half_an_hour, scenes.some_seconds, scenes.killed))
+    half, some = (once(lambda scene=scene: sized(program, scenes.played(program, scene))) for scene in (scenes.half_an_hour, scenes.some_seconds))
+    killed = once(functools.partial(scenes.played, program, scenes.killed))
     suites = [
         ("half an hour", checks_of_half_an_hour(program, half)),
         ("killed within a step", checks_of_killed(program, killed)),

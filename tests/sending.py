@@ -22,9 +22,9 @@ ROUTES = [f"2001:db8:{number:x}::/48" for number in range(1, MOST + 1)]
 """As many routes as a datagram brings."""
 MANY = "".join(prefix(f"2001:db8:{number:x}::/48") for number in range(1_024))
 """More prefixes than go into 16 datagrams of 1,280 bytes, which have 61 entries each: 17 tell them."""
-ASKED = 4
-"""So many answers, the update and the Request of the start are 86 datagrams: a pause for one peer, which gets 64 at once. The socket of a
-neighbor that does not read holds 93."""
+ASKED = 3
+"""So many answers, the update and the Request of the start are 69 datagrams: a pause for one peer, which gets 64 at once. A fourth Request
+would find an answer that waits."""
 CROWD = 8
 """Peers that share those 64, so each datagram for all of them counts for one of 8."""
 STAMPED = 35
@@ -192,7 +192,7 @@ def sixty_four_datagrams_go_at_once_and_as_many_sixteen_milliseconds_later(case)
     router = Ordered(case, "paced", text + MANY, "--turns", f"{ASKED + 1}", clock=0)
     neighbor.send(ports[0], REQUEST, ASKED)
     router.done()
-    same("when it was sent", router.sends(ports[0]), {0: 64, 16: 22})
+    same("when it was sent", router.sends(ports[0]), {0: 64, 16: 5})
     same("when it was sent to eight peers", router.sends(ports[1]), {0: 64, 16: 64, 32: 16})
     same("how long it waited", router.waits(), [50, 0, 0, 4, 16, 18])
     same("how long it slept", [ms for _, _, ms, _ in router.calls("sleep")], [12])
@@ -205,7 +205,7 @@ def what_waits_goes_out_at_the_end_at_its_pace_and_in_order(case):
     neighbor, port = case.neighbor(), case.port()
     text = interface(1, port, peer(2, neighbor.port, port=2_000)) + MANY
     whole = []
-    for clock, moments in (("0", {0: 64, 16: 22}), ("still", {0: 86})):
+    for clock, moments in (("0", {0: 64, 16: 5}), ("still", {0: 69})):
         router = Ordered(case, f"ending{clock}", text, "--turns", f"{ASKED}", clock=clock)
         neighbor.send(port, REQUEST, ASKED)
         router.done()
@@ -214,8 +214,8 @@ def what_waits_goes_out_at_the_end_at_its_pace_and_in_order(case):
             same("how long it slept", [ms for _, _, ms, _ in router.calls("sleep")], [16])
         same("what was lost", router.said(), "")
         whole.append(neighbor.rest())
-    same("how many came", [len(came) for came in whole], [86, 86])
-    tables = [came[at:at + 17] for came in whole for at in range(1, 86, 17)]
+    same("how many came", [len(came) for came in whole], [69, 69])
+    tables = [came[at:at + 17] for came in whole for at in range(1, 69, 17)]
     same("whether each whole table came in order", tables, len(tables) * tables[:1])
     numbers = [struct.unpack(">H", datagram[at + 4:at + 6])[0] for datagram in tables[0] for at in range(4, len(datagram), 20)]
     same("the order of what was told", numbers, list(range(1_024)))
@@ -237,16 +237,48 @@ def no_turn_waits_while_a_datagram_is_there(case):
 
 
 @listed
-def more_than_4096_that_wait_are_refused(case):
-    """While the clock stands still: of the 17 datagrams to each of 250 askers, of the update and the Request, 64 go and 4,096 wait."""
+def a_peer_has_one_answer_that_waits(case):
+    """While the clock stands still, the Request of the start, the update and the answers to two Requests, of 17 datagrams each, go at once,
+    and the third in part. While the rest of that waits, whatever else the neighbor asks is lost. What it tells is not."""
     neighbor, port = case.neighbor(), case.port()
-    router = Ordered(case, "full", interface(1, port, peer(2, neighbor.port, port=2_000)) + MANY, "-d", "--turns", "250", clock="still")
-    neighbor.send(port, REQUEST, 250)
+    router = Ordered(case, "owing", interface(1, port, peer(2, neighbor.port)) + MANY, "-d", "--turns", "250", clock="still")
+    neighbor.send(port, REQUEST, 200)
+    neighbor.send(port, FAULTY, 2)
     router.done()
-    refused = 250 * 17 + 17 + 1 - 64 - 4_096
-    same("what is said", router.said(),
-         f"arrivals 250 sends {250 * 17 + 17} failed {refused}\nripngd: lost sends {refused}, lost steps 0\n")
-    same("how many were sent", router.sends(port), {0: 64 + 4_096})
+    sends = ASKED * 17 + 17
+    same("what is said", [line for line in router.said().splitlines() if "iface" not in line and "noted" not in line],
+         [f"arrivals {ASKED + 2} sends {sends} failed 0", f"ripngd: lost sends 0, lost steps {200 - ASKED}"])
+    same("how many were sent", router.sends(port), {0: 1 + sends})
+
+
+@listed
+def few_answers_wait_and_fewest_to_those_that_only_ask(case):
+    """While the clock stands still: of 100 peers 60 tell something, then the other 40 ask, and then those 60. Each answer takes 17
+    datagrams. Of those that only ask the 36th finds 595 waiting, and no other is answered. Of the others the 35th finds 1,190, and of
+    its answer ten datagrams may wait."""
+    crowd, port = [case.neighbor() for _ in range(100)], case.port()
+    text = interface(1, port, *(peer(2 + number, one.port, port=521 if number < 60 else 2_000) for number, one in enumerate(crowd)))
+    router = Ordered(case, "asked", text + MANY, "-d", "--turns", "200", clock="still")
+    for one in crowd[:60]:
+        one.send(port, FAULTY)
+    for one in crowd[60:] + crowd[:60]:
+        one.send(port, REQUEST)
+    router.done()
+    answered, lost = 36 + 35, (40 - 36) + (60 - 35)
+    same("what is said", [line for line in router.said().splitlines() if "iface" not in line and "noted" not in line],
+         [f"arrivals {60 + answered} sends {answered * 17 + 17} failed 7", f"ripngd: lost sends 7, lost steps {lost}"])
+    answers = [sum(len(datagram) > 24 for datagram in one.rest()) - 17 for one in crowd]
+    same("how much each was answered", answers, 34 * [17] + [10] + 25 * [0] + 36 * [17] + 4 * [0])
+
+
+@listed
+def a_port_for_the_group_has_the_whole_pace(case):
+    """Eight peers share it where each of them gets a copy, and not where one port does."""
+    group, port = case.neighbor(), case.port()
+    crowd = [case.neighbor() for _ in range(CROWD)]
+    text = interface(1, port, *(peer(2 + number, one.port) for number, one in enumerate(crowd)), group_port=group.port) + MANY
+    router = Ordered(case, "whole", text, "--turns", "1", clock=0).done()
+    same("when it was sent", router.sends(port), {0: 1, 50: 17})
 
 
 @listed
@@ -257,24 +289,27 @@ def what_waited_and_could_not_be_sent_is_counted(case):
     neighbor.send(port, REQUEST, ASKED)
     router.done()
     same("how many came", len(neighbor.rest()), 64)
-    same("what is said", router.said(), "arrivals 4 sends 85 failed 0\nripngd: lost sends 22, lost steps 0\n")
+    same("what is said", router.said(), "arrivals 3 sends 68 failed 0\nripngd: lost sends 5, lost steps 0\n")
 
 
 @listed
 def what_is_for_a_peer_that_has_gone_is_lost(case):
-    """While the clock stands still, eight datagrams go to one of eight peers: the Request of the start, and seven of the first answer. Ten of
-    it and the update wait. The peer goes behind the first turn. What came from it before is heard, but the 17 datagrams of the second
-    answer are for nobody, and so are the ten at the end. The update is for those that are still there, and not lost."""
+    """While the clock stands still, eight datagrams go to one of eight peers, which goes behind the first turn. What came from it before is
+    heard. Where it asked first, seven of the answer's 17 datagrams went out, behind the Request of the start, and the last ten are lost at
+    the end. Where it asked second, all 17 are for nobody. The update is for those that are still there, and not lost."""
     crowd, port = [case.neighbor() for _ in range(CROWD)], case.port()
-    text = interface(1, port, *(peer(2 + number, one.port, port=2_000) for number, one in enumerate(crowd))) + MANY
-    router = Ordered(case, "left", text, "--control", "left.sock", "-d", "--turns", "2", clock="still")
-    client = router.client().say(b"unpeer 0 fe80::2\n")
-    crowd[0].send(port, REQUEST, 2)
-    router.done()
-    same("the answer to unpeer", client.all(), "ok\n")
-    client.close()
-    same("how many came", [len(one.rest()) for one in crowd[:2]], [8, 18])
-    same("what is said", router.said(), "arrivals 2 sends 51 failed 17\nripngd: lost sends 27, lost steps 0\n")
+    text = interface(1, port, *(peer(2 + number, one.port) for number, one in enumerate(crowd))) + MANY
+    for name, came, failed, lost in (("late", (REQUEST, FAULTY), 0, 10), ("later", (FAULTY, REQUEST), 17, 17)):
+        router = Ordered(case, name, text, "--control", f"{name}.sock", "-d", "--turns", "2", clock="still")
+        client = router.client().say(b"unpeer 0 fe80::2\n")
+        for datagram in came:
+            crowd[0].send(port, datagram)
+        router.done()
+        same("the answer to unpeer", client.all(), "ok\n")
+        client.close()
+        same("how many came", [len(one.rest()) for one in crowd[:2]], [8, 18])
+        same("what is said", [line for line in router.said().splitlines() if "iface" not in line and "noted" not in line],
+             [f"arrivals 2 sends 34 failed {failed}", f"ripngd: lost sends {lost}, lost steps 0"])
 
 
 @listed

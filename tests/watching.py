@@ -6,6 +6,7 @@
 A line for each case that fails, and last how many passed. The system answers as is ordered (tests/system.c): its clock stands still,
 and writes fail in turn."""
 
+import json
 import os
 import re
 import subprocess
@@ -13,9 +14,11 @@ import sys
 from errno import ENOSPC
 
 sys.dont_write_bytecode = True
+sys.path.insert(0, os.path.join(os.path.dirname(os.path.abspath(__file__)), "../links"))
 from daemons import interface, listed, main, peer, prefix, SECONDS, until
 from datagrams import MOST, REQUEST, entry, feed, response, table
 from ordered import Ordered
+from shape import ENTRIES, PACKETS, SHAPE
 from suite import Failed, same
 
 OWN = "2001:db8::/32"
@@ -121,7 +124,7 @@ def each_sender_has_a_row(case):
          "iface 1 from fe80::2 arrivals 2 responses 1 entries 0 last T\n")
     counts = re.sub(r"sends \d+ failed", "sends S failed", router.ctl("counts").out)
     same("the counts", counts, "arrivals 5 sends S failed 0\nrefused 1 Short 1\n"
-         "refused 11 EmptyRequest 1\nnoted 20 BadLength 1\nnoted 22 BadMetric 1\nlost sends 0 steps 0 arrivals 0\nstrangers 0\n")
+         "refused 11 EmptyRequest 1\nnoted 20 BadLength 1\nnoted 22 BadMetric 1\nlost sends 0 steps 0 arrivals 0\nstrangers 0\nasked 0\n")
 
 
 @listed
@@ -139,6 +142,48 @@ def senders_beyond_64_are_counted_together(case):
          "refused 1 Short 1"])
     same("the number of lines", len(lines), 64 + 1 + 1)
     same("the last line", lines[-1], "others arrivals 2 responses 2 entries 2 last T")
+
+
+@listed
+def a_router_says_how_it_is_in_json(case):
+    """What `status` says in words, under the names of `ripngd-links status --json`; a rule that refused nothing has 0, and who never sent a
+    Response null."""
+    first, second, ports = case.neighbor(), case.neighbor(), (case.port(), case.port())
+    text = interface(1, ports[0], peer(2, first.port), cost=3) + interface(3, ports[1], peer(4, second.port), mtu=1500) + prefix("2001:db8:e::/48")
+    router = case.listening("json", text)
+    for _ in range(2):
+        first.send(ports[0], response(entry(OWN, 1), entry(OWN, 17)))
+    second.send(ports[1], b"\2\1")
+    until("heard", lambda: router.ctl("counts").out.startswith("arrivals 3 "))
+
+    def quiet():
+        """The answer, between two in words that differ in nothing but the clock."""
+        before, told, after = (router.ctl("status", *words) for words in ((), ("json",), ()))
+        same("status and standard error", (told.status, told.err), (0, ""))
+        clocks = [int(re.search(r"^now (\d+)", answer.out, re.M)[1]) for answer in (before, after)]
+        return before.out.replace(str(clocks[0]), "") == after.out.replace(str(clocks[1]), "") and (clocks, before.out, told.out)
+
+    clocks, words, text = until("no step between", quiet)
+    told = json.loads(text)
+    same("one line", (text.count("\n"), text.endswith("}\n")), (1, True))
+    router, links, others = told["router"], told["links"], told["others"]
+    since = links[0]["neighbors"][0].pop("response_seconds_ago")
+    passed = [moment - int(re.search(r" last (\d+)", words)[1]) for moment in clocks]
+    same(f"whether {since} s have passed since the Response", passed[0] // 1_000 <= since <= passed[1] // 1_000, True)
+    up = router.pop("uptime_seconds")
+    same(f"whether it is up for {up} s", clocks[0] // 1_000 <= up <= clocks[1] // 1_000, True)
+    none = dict.fromkeys(PACKETS + ENTRIES, 0)
+    zeros = dict.fromkeys(("failed", "lost_sends", "lost_steps", "lost_arrivals", "strangers", "asked"), 0)
+    same("the router", router, zeros | {"routes": 2, "arrivals": 3, "sends": int(re.search(r"sends (\d+)", words)[1]), "log_failed": False,
+                                        "refused": none | {"Short": 1, "BadMetric": 2}})
+    heard = {"address": "fe80::2", "arrivals": 2, "responses": 2, "entries": 4, "refused": none | {"BadMetric": 2}}
+    never = {"address": "fe80::4", "arrivals": 1, "responses": 0, "entries": 0, "response_seconds_ago": None, "refused": none | {"Short": 1}}
+    same("the interfaces", links, [
+        {"interface": 0, "address": "fe80::1", "cost": 3, "mtu": 1280, "neighbors": [heard]},
+        {"interface": 1, "address": "fe80::3", "cost": 1, "mtu": 1500, "neighbors": [never]}])
+    same("all others", others, {"arrivals": 0, "responses": 0, "entries": 0, "response_seconds_ago": None, "refused": none})
+    named = [f"router.{name}" for name in router] + [f"links[].{name}" for name in links[0]] + [f"links[].neighbors[].{name}" for name in never]
+    same("names that the companion has not", [name for name in named if not any(known.startswith(name) for known in SHAPE)], [])
 
 
 # Where a write fails.

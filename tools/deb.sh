@@ -21,8 +21,11 @@ sed -i '1s|.*|#!/usr/bin/python3|' "$folder/usr/lib/ripngd-links/ripngd-links"
 mkdir -p "$folder/etc/ripngd" "$folder/etc/ripngd-links" "$folder/usr/share/lintian/overrides" "$folder/DEBIAN"
 echo 'ripngd: unstripped-binary-or-object' > "$folder/usr/share/lintian/overrides/ripngd"
 gzip -9nf "$folder"/usr/share/man/man8/*.8
-printf 'ripngd (%s) unstable; urgency=medium\n\n  * docs/CHANGELOG.md says what has changed.\n\n -- %s  %s\n' \
-    "$version" "$maintainer" "$date" | gzip -9n > "$doc/changelog.gz"
+install -m 644 "$(dirname "$0")/../links/sample.toml" "$folder/etc/ripngd-links/sample.toml"
+echo /etc/ripngd-links/sample.toml > "$folder/DEBIAN/conffiles"
+# The points of docs/CHANGELOG.md for the newest version, as Debian wants them.
+changes=$(awk '/^## /{if (seen++) exit; next} seen && /^- /{print "  * " substr($0, 3)} seen && /^  /{print "  " $0}' "$doc/docs/CHANGELOG.md")
+printf 'ripngd (%s) unstable; urgency=medium\n\n%s\n\n -- %s  %s\n' "$version" "$changes" "$maintainer" "$date" | gzip -9n > "$doc/changelog.gz"
 printf 'ripngd: a RIPng router, a companion for real links and a simulator\n\nCopyright (C) %s %s\n\n%s\n' "$(date -ud "@$SOURCE_DATE_EPOCH" +%Y)" \
     "$maintainer" 'No licence has been chosen yet, so all rights are reserved.' > "$doc/copyright"
 
@@ -43,7 +46,7 @@ Description: RIPng router with proved rules, and network simulator
  in a browser.
 END
 
-# Routers that run are started anew by an upgrade, and ended by a removal. Configurations are the operator's, and stay.
+# Routers that run are started anew by an upgrade, which forwards on, and ended by a removal. Configurations are the operator's, and stay.
 routers="'ripngd@*.service' 'ripngd-links@*.service'"
 cat > "$folder/DEBIAN/postinst" <<END
 #!/bin/sh
@@ -73,5 +76,5 @@ END
 find "$folder" -type d -exec chmod 755 {} +
 find "$folder/usr/share" -type f -exec chmod 644 {} +
 chmod 755 "$folder/DEBIAN/postinst" "$folder/DEBIAN/prerm" "$folder/DEBIAN/postrm" "$doc/links/bird.sh"
-chmod 644 "$folder/DEBIAN/control" "$folder/DEBIAN/md5sums"
+chmod 644 "$folder/DEBIAN/control" "$folder/DEBIAN/md5sums" "$folder/DEBIAN/conffiles"
 dpkg-deb --root-owner-group --build "$folder" "$package"

@@ -18,7 +18,7 @@ WORDS = re.compile(r"\b(tells?|told|hears?|heard|hearing|stranger|liar|lies?|dec
                    r"desk|telling|dear|dearer|behind|is none|are none|but for|the house|urgent|quiet|doubles?)\b", re.IGNORECASE)
 # Words that stand nowhere, and what to write.
 REFUSED = {
-    r"so many": "the number, or the name of what has it",
+    r"so many(?= of\b|[.,;:])": "the number, or the name of what has it",
     r"(for )?want of memory|wants? memory": "out of memory",
     r"none of RIPng": "what does not follow RIPng",
     r"as it should be": "what is right, or what is wrong",

@@ -9,13 +9,16 @@ import tempfile
 
 import addresses
 import changes
+import daily
 import edges
 import faults
 import lists
 import networks
 import package
 import parts
+import reloads
 import service
+import sniffed
 import soak
 import starts
 import trust
@@ -29,7 +32,7 @@ def the_parts(net, program):
     same("what fails", [line for line in done.stdout.splitlines() if not line.startswith("ok ")], [f"{len(parts.CASES)} passed, 0 failed"])
 
 
-CASES = [networks.a_line, networks.a_ring, networks.a_lossy_cable, networks.many_routes]
+CASES = [networks.a_line, networks.a_ring, networks.a_lossy_cable, networks.many_routes, networks.two_hundred_links]
 CASES += [edges.a_stranger, edges.many_neighbors, edges.a_flood, edges.a_killed_companion]
 CASES += [edges.addresses_come_and_go, edges.links_come_and_go, edges.the_page, edges.no_privilege]
 CASES += [addresses.one_address_on_two_links, addresses.a_neighbor_with_our_address, starts.a_slow_router]
@@ -40,9 +43,12 @@ CASES += [faults.an_ip_that_fails, faults.a_log_that_fails, faults.nothing_loops
 CASES += [starts.a_late_neighbor, starts.a_silent_neighbor, starts.a_late_address]
 CASES += [changes.routes_stay, changes.what_is_not_told_goes, changes.routes_come_back, changes.a_link_goes_and_comes]
 CASES += [changes.a_last_update]
-CASES += [lists.half_of_a_datagram, lists.the_greatest_number, lists.static_routes_win]
+CASES += [reloads.a_reload, reloads.a_refused_reload, reloads.lists_are_reloaded, reloads.a_hand_over, reloads.links_by_pattern]
+CASES += [daily.the_log, daily.a_flood_of_lines, daily.monitoring, daily.routes_are_mended, daily.a_hung_router_is_replaced]
+CASES += [daily.no_martians, daily.a_bridge_port, daily.a_renamed_device, daily.two_capabilities]
+CASES += [lists.half_of_a_datagram, lists.what_is_told, lists.the_greatest_number, lists.static_routes_win]
 CASES += [service.a_refused_table, service.ends_by_signals, service.links_that_are_not_there, service.losses_are_counted]
-CASES += [service.the_units, package.a_package, the_parts]
+CASES += [service.the_units, package.a_package, sniffed.captured_routers, the_parts]
 # Played only where it is named.
 LONG = [soak.ten_minutes]
 

@@ -107,7 +107,10 @@ def others_routes(space):
 
 
 def is_router(pid):
-    return b"--control" in pathlib.Path(f"/proc/{pid}/cmdline").read_bytes()
+    try:
+        return b"--control" in pathlib.Path(f"/proc/{pid}/cmdline").read_bytes()
+    except FileNotFoundError:  # it has just ended
+        return False
 
 
 def a_killed_companion(net, program):
@@ -213,7 +216,7 @@ def status(pid, key):
 
 
 def no_privilege(net, program):
-    """The companion keeps two capabilities, or one where it leaves the kernel alone; the router has none ever."""
+    """The companion keeps three capabilities, or two where it leaves the kernel alone; the router has none ever."""
     spaces = {name: net.space(name) for name in "bopq"}
     for name in "opq":
         net.cable(spaces["b"], spaces[name])
@@ -225,7 +228,7 @@ def no_privilege(net, program):
     }
     for name, router in routers.items():
         until(REGULAR, f"one {name} has learned", lambda: len(router.table()) == 4)
-        wanted, kept = (0, 1 << 13) if name == "with --no-kernel" else (3, 1 << 12 | 1 << 13)
+        wanted, kept = (0, 1 << 10 | 1 << 13) if name == "with --no-kernel" else (3, 1 << 10 | 1 << 12 | 1 << 13)
         until(5, f"the kernel of one {name} has {wanted}", lambda: len(router.kernel()) == wanted)
         for pid in [router.process.pid, *router.children()]:
             mine = kept if pid == router.process.pid else 0

@@ -91,7 +91,7 @@ def an_ip_that_fails(net, program):
     (folder / "ip").chmod(0o755)
     broken.touch()
     bird, ours = a_pair(net, program, by=["env", f"PATH={folder}:{os.environ['PATH']}"])
-    until(REGULAR, "it is said", lambda: ours.said("`ip address` fails, and is tried again later: no room"))
+    until(REGULAR, "it is said", lambda: ours.said("the devices are not known"))
     broken.unlink()
     until(REGULAR, "it has learned", lambda: set(ours.kernel()) == {LEARNED})
     until(LOOK, "what is owned leads nowhere", lambda: ours.nowhere() == {OWNED})

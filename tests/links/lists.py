@@ -22,6 +22,22 @@ def half_of_a_datagram(net, program):
         same("the status", ours.end(15), 0)
 
 
+def what_is_told(net, program):
+    """A passive link learns, and its neighbor hears nothing; a list leaves out what is not to be told on its link alone."""
+    spaces = {name: net.space(name) for name in "bocd"}
+    for name in "bcd":
+        net.cable(spaces[name], spaces["o"])
+    prefixes = {name: f"2001:db8:{number}::/48" for number, name in enumerate("bcd", 1)}
+    birds = {name: Bird(spaces[name], {"to-o": 1}, [prefixes[name]]) for name in "bcd"}
+    links = {"to-b": {"passive": True}, "to-c": {"announce_not": [BAD]}, "to-d": {"announce": ["2001:db8:1::/48", BAE]}}
+    ours = Ours(spaces["o"], program, links, [BAD, BAE])
+    until(REGULAR, "it has learned of all", lambda: set(ours.kernel()) == set(prefixes.values()))
+    wanted = {"b": {prefixes["b"]: 1}, "c": {prefixes["b"]: 3, prefixes["c"]: 1, prefixes["d"]: 3, BAE: 2}}
+    wanted["d"] = {prefixes["b"]: 3, prefixes["d"]: 1, BAE: 2}
+    for name in "cdb":
+        until(REGULAR, f"{name} has just what it is told", lambda: birds[name].table() == wanted[name])
+
+
 def the_greatest_number(net, program):
     """Three of five prefixes have room; what is withdrawn, and deleted two minutes later, makes room for another, at its next update."""
     b, o = net.space("b"), net.space("o")

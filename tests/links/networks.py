@@ -1,11 +1,16 @@
 """Cases of networks: this router between BIRD and FRR, whose tables are compared with a plain computation."""
 
+import pathlib
 import sys
 import time
 
+from changes import routers_of
 from least import GARBAGE, REGULAR, TRIGGERED, differing, least, settle
 from spaces import INFINITY, Bird, Frr, Ours, Wrong, same, until
 
+# Of a router on many links: how many, what it may take of a processor until all neighbors are met, in seconds, in how many seconds it is
+# watched then, and which share of a processor it may take.
+LINKS, BEGINNING, WATCHED, IDLE = 200, 1.5, 20, 0.02
 # Sends to an address, if it is given one, and prints what comes back; else sends all back.
 ECHO = """import socket, sys
 here, *there = sys.argv[1:]
@@ -134,4 +139,34 @@ def many_routes(net, program):
 
         until(seconds, what, lambda: not differing(routers, wanted))
         settle(routers, wanted, 10)
-        same("what is lost", routers["o"].lost(), 0)
+        # A neighbor that starts asks more than once, and is not answered again while the first answer waits.
+        same("whether more is lost than some Requests", routers["o"].lost() > 4, False)
+
+
+def spent(ours):
+    """Seconds of processor time of a companion and its router, as the scheduler counts them."""
+    pids = [ours.process.pid, *routers_of(ours)]
+    return sum(int(pathlib.Path(f"/proc/{pid}/schedstat").read_text().split()[0]) for pid in pids) / 1e9
+
+
+def two_hundred_links(net, program):
+    """On each of them a neighbor tells another prefix. All are met, and neither that nor what follows takes much of a processor."""
+    o, n = net.space("o"), net.space("n")
+    prefixes = [f"2001:db8:{number:x}::/48" for number in range(LINKS)]
+    cables = "".join(f"link add o{number} type veth peer name n{number} netns {n.full}\n" for number in range(LINKS))
+    o.do("ip", "-batch", "-", input=cables)
+    for space in (o, n):
+        space.do("ip", "-batch", "-", input="".join(f"link set {space.name}{number} up\n" for number in range(LINKS)))
+    told = {f"n{number}": {"own": False, "announce": [prefix]} for number, prefix in enumerate(prefixes)}
+    neighbor = Ours(n, program, told, prefixes)
+    until(REGULAR, "the neighbor is up", lambda: len(neighbor.table()) == LINKS)
+    time.sleep(10)  # until it has told and asked all that it does at first
+    ours = Ours(o, program, {f"o{number}": {} for number in range(LINKS)})
+    until(REGULAR, "all are met", lambda: len(ours.table()) == LINKS)
+    begun = spent(ours)
+    same(f"whether {begun:.2f} s of a processor are less than {BEGINNING}", begun < BEGINNING, True)
+    time.sleep(10)
+    before = spent(ours)
+    time.sleep(WATCHED)
+    share = (spent(ours) - before) / WATCHED
+    same(f"whether {share:.3f} of a processor is less than {IDLE}", share < IDLE, True)

@@ -17,6 +17,9 @@ within() { chroot "$1/system" env PATH=/usr/sbin:/usr/bin:/sbin:/bin sh -c "$2";
 within "$1" 'dpkg -i /packages/1.deb > /dev/null; ripngd --version; ripngd-links --help | head -n 1; dpkg -V frr ripngd'
 within "$1" 'test -x /usr/share/doc/ripngd/links/bird.sh; ls /usr/share/man/man8/*ripngd*.8.gz /usr/share/doc/ripngd/docs/lab.html'
 within "$1" 'for unit in ripngd ripngd-links; do sed -n "s/^ExecStart=\\([^ ]*\\).*/\\1/p" /usr/lib/systemd/system/$unit@.service; done'
+within "$1" 'ripngd-links check --unproved /etc/ripngd-links/sample.toml 2> /dev/null'
+within "$1" 'zcat /usr/share/doc/ripngd/changelog.gz | sed -n "1s/(.*)//p; 3p; \$s/ -- .*/--/p"; cat /var/lib/dpkg/info/ripngd.conffiles'
+within "$1" 'grep -c "systemctl try-restart .*ripngd-links@" /var/lib/dpkg/info/ripngd.postinst'
 within "$1" 'dpkg -i /packages/2.deb > /dev/null; dpkg-query -W -f "\\${Version}\\n" ripngd; touch /etc/ripngd-links/mine.toml'
 within "$1" 'dpkg -P ripngd > /dev/null 2>&1; dpkg -V frr; ls /usr/lib/frr/ripngd; rm -r /packages'
 cd "$1/upper"
@@ -56,6 +59,8 @@ def a_package(net, program):
         raise Wrong(f"the trial: {done.stderr}")
     pages = [f"/usr/share/man/man8/{name}.8.gz" for name in ("frr-ripngd", "ripngd-links", "ripngd")]
     wanted = [version.strip(), "usage: ripngd-links [-h] [--no-kernel] [-d] [--unproved] CONFIG"]
-    wanted += ["/usr/share/doc/ripngd/docs/lab.html", *pages, "/usr/bin/ripngd", "/usr/bin/ripngd-links", "9.9"]
+    wanted += ["/usr/share/doc/ripngd/docs/lab.html", *pages, "/usr/bin/ripngd", "/usr/bin/ripngd-links", "ok links 2 stubs 1 prefixes 0"]
+    first = next(line for line in (ROOT / "docs/CHANGELOG.md").read_text().splitlines() if line.startswith("- "))
+    wanted += ["ripngd  unstable; urgency=medium", f"  * {first[2:]}", "--", "/etc/ripngd-links/sample.toml", "1", "9.9"]
     wanted += ["/usr/lib/frr/ripngd", "./etc/ripngd-links", "./etc/ripngd-links/mine.toml"]
     same("what the trial prints", done.stdout.splitlines(), wanted)

@@ -18,8 +18,8 @@ sys.path.insert(0, str(ROOT / "links"))
 sys.dont_write_bytecode = True
 
 import kernel  # noqa: E402
+import pure  # noqa: E402
 import sockets  # noqa: E402
-import status  # noqa: E402
 import system  # noqa: E402
 from spaces import same, until  # noqa: E402
 from stranger import REQUEST, RESPONSE, checksum  # noqa: E402
@@ -194,19 +194,8 @@ def devices_as_ip_says():
         same("the address", str(found.link_local), "fe80::2" if state == "is up" else "None")
         same("whether it is tried", found.is_trying, "tentative" in listed[0] and "dadfailed" not in listed[0])
         same("its prefixes", {str(one) for one in found.prefixes}, {"2001:db8::/64"} if wide in listed else set())
-
-
-def what_the_router_says():
-    """Lines of `ctl status` are the counts of a link's neighbors in a report."""
-    told = {"router": {}, "links": [{"device": "a", "interface": 0}, {"device": "b", "interface": None}, {"device": "c"}]}
-    counted = ["interface 0 address fe80::1 cost 1 mtu 1500", "now 9000 routes 7", "lost sends 0 steps 2 arrivals 1"]
-    counted += ["iface 0 from fe80::5 arrivals 3 responses 1 entries 2 last 4000", "refused 10 HopLimit 2", "others arrivals 5 responses 0"]
-    status.join(told, counted, {"2001:db8::/32": ("fe80::5", 0), "2001:db9::/32": ("fe80::6", 0)})
-    same("the router's", (told["router"]["lost_steps"], told["router"]["answers"]), (2, True))
-    one = {"address": "fe80::5", "routes": 1, "arrivals": 3, "responses": 1, "entries": 2, "refused": {"HopLimit": 2}}
-    same("the neighbors", told["links"][0]["neighbors"], [one | {"response_seconds_ago": 5.0}])
-    same("of a link without a router", told["links"][1]["neighbors"], [])
-    same("of a stub", "neighbors" in told["links"][2], False)
+    port = system.device(known | {"addr_info": [near | {"local": "fe80::2"}], "master": "br0", "linkinfo": {"info_slave_kind": "bridge"}})
+    same("the state of a port", system.state_of(port), "is a port of the bridge br0; name that as the link")
 
 
 def routes_that_are_mended():
@@ -244,7 +233,7 @@ async def mended():
 
 
 CASES = [what_sockets_give, a_device_made_anew, a_filter_that_stays, a_port_that_is_taken, what_is_repeated]
-CASES += [devices_as_ip_says, what_the_router_says, routes_that_are_mended]
+CASES += [devices_as_ip_says, routes_that_are_mended, *pure.CASES]
 
 
 def main():

@@ -136,6 +136,9 @@ def the_units(net, program):
             "Type": "notify",
             "Restart": "on-failure",
             "RestartPreventExitStatus": "1 2",
+            "RestartKillSignal": "SIGUSR2",
+            "WatchdogSec": "60",
+            "RuntimeDirectoryMode": "0711",
             "AmbientCapabilities": "CAP_NET_ADMIN CAP_NET_RAW CAP_NET_BIND_SERVICE",
         },
         "ripngd": {"Type": "exec", "Restart": "on-failure", "RestartPreventExitStatus": "1 2"},
@@ -184,7 +187,8 @@ def the_router_of_a_unit(net, folder, within):
 
 def the_companion_of_a_unit(net, folder, space):
     """It says when it is ready, and when TERM comes to it alone its status is 0."""
-    (net.folder / "name.toml").write_text(f'program = "{folder}/ripngd"\nuser = "nobody"\n{LINK}')
+    table = f'program = "{folder}/ripngd"\nuser = "nobody"\n{LINK}'
+    (net.folder / "name.toml").write_text(table)
     words = of_unit("ripngd-links", "ExecStart", bindir=COMPANION.parent, unproved=" --unproved")
     words = [word.replace("/etc/ripngd-links", str(net.folder)) for word in words]
     with socket.socket(socket.AF_UNIX, socket.SOCK_DGRAM) as manager:
@@ -195,5 +199,9 @@ def the_companion_of_a_unit(net, folder, space):
         run.mkdir(mode=0o700)
         process = space.start("unit", "env", f"NOTIFY_SOCKET={folder}/notify", f"RUNTIME_DIRECTORY={run}", *words)
         same("what systemd gets", manager.recv(99), b"READY=1")
+    reload = of_unit("ripngd-links", "ExecReload", bindir=COMPANION.parent, runtime=run)
+    for more, status in (("", 0), ("cots = 1", 1)):
+        (net.folder / "name.toml").write_text(table + more)
+        same("the status of a reload", subprocess.run(reload, capture_output=True, check=False).returncode, status)
     process.send_signal(signal.SIGTERM)
     same("the status of the companion", process.wait(TRIGGERED), 0)

@@ -137,10 +137,10 @@ class Space:
 class Ours:
     """This router with its companion."""
 
-    def __init__(self, space, program, links, prefixes=(), words=(), by=(), more=()):
+    def __init__(self, space, program, links, prefixes=(), words=(), by=(), more=(), user="nobody"):
         self.space, self.program, self.by, self.devices = space, program, by, list(links)
         self.config, self.run, self.words = space.folder / "links.toml", space.folder / "run", words
-        lines = ['user = "nobody"', f'program = "{program}"', f'folder = "{self.run}"', *more]
+        lines = [f'user = "{user}"', f'program = "{program}"', f'folder = "{self.run}"', *more]
         for device, keys in links.items():
             lines += ["[[link]]", f'device = "{device}"']
             lines += [f"{key} = {json.dumps(value)}" for key, value in keys.items()]
@@ -202,9 +202,9 @@ class Ours:
         return {words[2]: int(words[3]) for words in found if words[0] in ("refused", "noted")}
 
     def lost(self):
-        """How much the router has lost: datagrams that it was to send, and steps."""
+        """How much the router has lost: datagrams that it was to send, and steps, arrivals for which there was no room among them."""
         found = next(line.split() for line in self.ctl("counts") if line.startswith("lost "))
-        return sum(map(int, found[2::2]))
+        return int(found[2]) + int(found[4])
 
     def children(self):
         told = subprocess.run(["pgrep", "-P", str(self.process.pid)], capture_output=True, text=True, check=False)

@@ -2,7 +2,8 @@
 """What somebody sends on a link: `stranger.py DEVICE KIND [SOURCE [TIMES]]`, five times; of `request` it prints the answer, of
 `query=ADDRESS`, which comes from beyond the link, too, and of `late` whether a second after it has an address it is asked. `flood` sends
 3,000 Responses, each from another link-local address, and `in-the-name` one from an address that it need not have. `next-hop=ADDRESS` is a
-Response of 2001:db8:bad::/48 by way of that address, and of 2001:db8:bae::/48 by way of the sender."""
+Response of 2001:db8:bad::/48 by way of that address, and of 2001:db8:bae::/48 by way of the sender. `of=PREFIX,..` is one of these
+prefixes."""
 
 import ipaddress
 import os
@@ -25,6 +26,12 @@ def through(address):
     hops = [ipaddress.IPv6Address(hop).packed + b"\0\0\0\xff" for hop in (address, "::")]
     other = ENTRY.replace(b"\x0b\xad", b"\x0b\xae")
     return b"\2\1\0\0" + hops[0] + ENTRY + hops[1] + other
+
+
+def of(prefixes):
+    """A Response of these prefixes."""
+    networks = map(ipaddress.IPv6Network, prefixes.split(","))
+    return b"\2\1\0\0" + b"".join(one.network_address.packed + struct.pack("!HBB", 0, one.prefixlen, 1) for one in networks)
 
 
 def opened(index, source, port=PORT, hops=255):
@@ -130,8 +137,8 @@ def main():
         sock.sendto(REQUEST, group)
         return print(answer(sock))
     sent = {"rubbish": RUBBISH, "neighbor": (RESPONSE,), "responses": (RESPONSE,), "requests": (REQUEST,)}
-    if kind == "next-hop":
-        sent[kind] = (through(other),)
+    if kind in ("next-hop", "of"):
+        sent[kind] = (through(other) if kind == "next-hop" else of(other),)
     for _ in range(int(times)):
         for data in sent.get(kind, (RESPONSE, REQUEST)):
             sock.sendto(data, group)

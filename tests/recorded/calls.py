@@ -6,6 +6,8 @@ Moments of the true clock are in nanoseconds, a router's own in milliseconds sin
 import dataclasses
 from collections import deque
 
+from datagrams import REQUEST
+
 MS = 1_000_000
 
 
@@ -42,7 +44,8 @@ class Call:
 
 @dataclasses.dataclass(frozen=True)
 class Deed:
-    """An act, with the moments that the router's clock gave and the calls of its link (`Deed`, `Trace`). `change` is what a client said."""
+    """An act, with the moments that the router's clock gave and the calls of its link (`Deed`, `Trace`). `change` is what a client said, `on`
+    the interface on which it asks, and `sizes` those of its tables after it, if they are known (tests/recorded/replayed.py)."""
     router: int
     run: int
     at: int
@@ -50,6 +53,8 @@ class Deed:
     moments: tuple
     calls: tuple
     change: tuple = ()
+    on: int = None
+    sizes: tuple = None
 
     @property
     def datagram(self):
@@ -189,11 +194,11 @@ class Reader:
 
     # Deeds.
 
-    def do(self, act, before=(), change=()):
+    def do(self, act, before=(), **what):
         """A step of the router: it reads its clock once, and hands over what it sends."""
         at = self.take("clock").at
         moment = (at - self.made) // MS
-        self.deeds.append(Deed(self.router, self.run, at, act, (moment,), (*before, *self.sends()), change))
+        self.deeds.append(Deed(self.router, self.run, at, act, (moment,), (*before, *self.sends()), **what))
 
     def turn(self):
         call = self.recv()
@@ -203,6 +208,20 @@ class Reader:
             self.deeds.append(Deed(self.router, self.run, call.at, "Listen", (), (call,)))
         self.do("Tick")
         self.serve()
+        if self.asks():
+            self.ask()
+
+    def asks(self):
+        """Whether a question comes next: two readings of a clock, the router's and the link's, and a Request. A `recv` reads one, and then
+        waits, or it gives what waits: that step reads two more before it sends."""
+        return [self.peek(ahead) for ahead in range(3)] == ["clock", "clock", "sendto"] and self.events[2].bytes == REQUEST
+
+    def ask(self):
+        """It asks on all its links, one after another: a step of each, by which a Request is handed over at once."""
+        for iface in range(len(self.places)):
+            if self.events and not self.asks():
+                raise Unread(f"{self.events[0]} where it asks on interface {iface}")
+            self.do("Ask", on=iface)
 
     def serve(self):
         """A client is let in, its line read and obeyed, and the answer sent."""

@@ -4,13 +4,13 @@ one thing is otherwise."""
 import dataclasses
 from collections import Counter
 
-from recorded.calls import MS, Call, Datagram
+from datagrams import REQUEST
+from recorded.calls import MS, Call, Datagram, Outgoing
 from recorded.history import History, are_linked
 from recorded.scenes import QUIET
 from recorded.times import regular_ticks
 from suite import Failed
 
-REQUEST = bytes([1, 1, 0, 0] + [0] * 19 + [16])
 GIVEN = {"GoOn.given", "GoOnAnyhow.given"}
 FAULTS = {}
 
@@ -270,3 +270,67 @@ def a_change_of_a_cost(history):
         deeds = [one for deed in run.deeds for one in ([deed, change] if deed is tick else [deed])]
         return dataclasses.replace(run, deeds=tuple(deeds))
     return history.changed(change_run)
+
+
+# Of questions.
+
+def questions_of(history):
+    """The first router that asks, and its first question: one deed for each link."""
+    place, first = found(history, lambda deed: deed.act == "Ask")
+    return [dated.deed for dated in history.deeds[place:] if dated.deed.router == first.router][:len(history.net[first.router].interfaces)]
+
+
+def with_deeds(history, behind, deeds):
+    """The history, where a router does this right behind a deed of its own."""
+    def change(run):
+        return dataclasses.replace(run, deeds=tuple(one for deed in run.deeds for one in ([deed, *deeds] if deed is behind else [deed])))
+    return history.changed(change)
+
+
+def asking(deed, count):
+    """What a router does that asks right behind a deed, on so many links."""
+    calls = [Call(deed.router, deed.run, deed.at, "Handed", outgoing=Outgoing(iface, (), REQUEST)) for iface in range(count)]
+    return [dataclasses.replace(deed, act="Ask", calls=(call,), moments=deed.moments[-1:], change=(), on=iface) for iface, call in enumerate(calls)]
+
+
+def asked_behind(history, deed):
+    """The router of a deed asks right behind it."""
+    return with_deeds(history, deed, asking(deed, len(history.net[deed.router].interfaces)))
+
+
+@breaks("IsLife.asks", "HasDone.asks")
+def a_question_without_a_loss(history):
+    return asked_behind(history, ticks_from(history, 2, QUIET + 20_000, 1)[0])
+
+
+@breaks("IsLife.asks", "HasDone.asks")
+def a_question_within_a_second(history):
+    """A route is lost again at once, and it asks for that at once."""
+    *_, last = questions_of(history)
+    tick = ticks_from(history, last.router, last.at // MS + 1, 1)[0]
+    forwarded, unreachable = tick.sizes
+    lossy = dataclasses.replace(tick, sizes=(forwarded - 1, unreachable + 1))
+    return with_deeds(edited(history, {id(tick): lossy}), lossy, asking(lossy, len(history.net[last.router].interfaces)))
+
+
+@breaks("HasDone.asks")
+def a_question_for_what_was_given_up(history):
+    """A client had it drop a prefix."""
+    _, deed = found(history, lambda deed: deed.act == "Reconfigure" and deed.change[0] == "drop")
+    return asked_behind(history, deed)
+
+
+@breaks("AsksAll.told")
+def a_question_of_a_quiet_router(history):
+    router = questions_of(history)[0].router
+    net = tuple(dataclasses.replace(node, quiet=True) if who == router else node for who, node in enumerate(history.net))
+    runs = [[dataclasses.replace(run, config=dataclasses.replace(run.config, quiet=True), in_force=dataclasses.replace(run.in_force, quiet=True))
+             if run.router == router else run for run in own] for own in history.runs]
+    return History(net, runs)
+
+
+@breaks("AsksAll.asks")
+def a_question_on_all_links_but_the_first(history):
+    """There it is refused something else."""
+    first = questions_of(history)[0]
+    return edited(history, {id(first): dataclasses.replace(first, act="Refuse", on=None)})
