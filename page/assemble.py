@@ -20,8 +20,8 @@ import sys
 PAGE = pathlib.Path(__file__).resolve().parent
 ROOT = PAGE.parent
 # The modules in order, of the page and of its worker.
-PAGE_MODULES = ["trace", "losses", "datagrams", "packets", "walks", "building", "numbering", "losing", "removing", "lessons", "layout", "placing", "markup",
-                "texts", "filtering", "tables", "acting", "forwarding", "detail", "quiz", "marks", "drawing", "showing", "keeping", "laboratory", "playing",
+PAGE_MODULES = ["trace", "losses", "datagrams", "pcap", "packets", "walks", "building", "numbering", "losing", "branching", "removing", "lessons", "layout", "placing", "markup",
+                "texts", "asking", "filtering", "tables", "acting", "forwarding", "plot", "detail", "quiz", "marks", "drawing", "showing", "keeping", "laboratory", "playing",
                 "editor", "giving", "acts", "keys", "page"]
 WORKER_MODULES = ["module", "worker"]
 FACTS = ("sources", "code", "kit", "wasm-opt", "proof")

@@ -10,10 +10,13 @@
   const press = id => document.getElementById(id).click();
   const textOf = selector => one(selector)?.textContent.trim().replace(/\s+/g, ' ') ?? 'nothing';
   const after = pause => new Promise(resolve => { setTimeout(resolve, pause); });
-  // The page runs a script a while after the last key.
+  // The page runs a script a while after the last key. What it says stays until then, however slow the machine is.
   const settled = async () => {
     await after(300);
-    while (isRunning() || view.span) await after(20);
+    while (isRunning() || view.span) {
+      clearTimeout(view.hushing);
+      await after(20);
+    }
     await after(20);
   };
   const key = (name, more = {}) => document.activeElement.dispatchEvent(new KeyboardEvent('keydown', { key: name, bubbles: true, cancelable: true, ...more }));
@@ -76,6 +79,7 @@
 
   // Clicks a router and lets it tick, then writes a line that is refused.
   async function edit() {
+    press('last');
     click(one('.router[data-router="0"]'));
     click(buttonOf('send what is due'));
     await settled();
@@ -148,6 +152,7 @@
   // A click whose line is refused leaves no line; one with a blank field, or a cost past 15, makes none; behind a refused
   // line nothing is put.
   async function refuseClicks() {
+    press('last');
     const asked = () => ran.length;
     click(one('.router[data-router="0"]'));
     set('#detail [name=prefix]', 'ff00::/8');
@@ -176,6 +181,7 @@
 
   // Typing, a click and another example are undone, one after another, and done again.
   async function undoAll() {
+    press('last');
     const examples = one('#examples'), texts = [script.value];
     await type(`${script.value}tick 0 400 0\n`);
     texts.push(script.value);
@@ -267,6 +273,7 @@
 
   // Rounds by a click, a lost datagram, a branch, a moment that stays as it was typed, and a datagram before it is sent.
   async function useActs() {
+    press('last');
     click(buttonOf('round'));
     await settled();
     tell(lastLine(), textOf('#where'));
@@ -284,7 +291,7 @@
     click(one('.router[data-router="1"]'));
     click(buttonOf('send what is due'));
     await settled();
-    tell(lastLine(), textOf('#events li:last-child'));
+    tell(script.value.split('\n#branch')[0].split('\n').at(-1), textOf('#events li:last-child'));
     set('#detail [name=now]', '123');
     press('back');
     tell(one('#detail [name=now]').value);
@@ -301,7 +308,7 @@
 
   const script = document.getElementById('script');
   const plays = { film: playFilm, asked: showAsked, where: showWhere, refusals: showRefusals, edit, callOffRuns, sayFaults, keepDrafts, refuseClicks, undoAll,
-    useKeys, keepDrawing, loadFiles, useActs, seeRounds, seeUpdates, loseAll, forge, cutLinks, takeLessons, fillBlanks, nameRouters, playQuiz, seeMatrix,
+    useKeys, keepDrawing, loadFiles, useActs, seeRounds, seeUpdates, loseAll, forge, cutLinks, takeLessons, fillBlanks, nameRouters, playQuiz, seeEmbedded, askAround, seeMatrix,
     removeThings, followPackets, seeCrowds, useLetters };
   const write = () => { document.body.innerHTML = '<pre id="report"></pre>'; document.getElementById('report').textContent = `${report.join('\n')}\n`; };
   window.onerror = message => { report.push(`wrong ${message}`); };

@@ -1,6 +1,6 @@
 // The page's modules without a browser: random scripts, run by the program, against what it prints and a plain computation.
 //
-//     node tests/page.mjs PROGRAM [SCRIPTS [SEED]]
+//     node tests/page.mjs PROGRAM [SCRIPTS [SEED [NAME..]]]     all cases, or those that have a NAME in theirs
 //
 // A line for each case, `ok NAME` or `FAILED NAME: why`, and last `N passed, M failed`; the exit status is 0 exactly where M is 0.
 // Only what a module exports is called; costs, owners and least costs are computed here anew, from the script's lines alone, and the
@@ -20,14 +20,18 @@ import { drawingOf } from '../page/src/drawing.js';
 import { detailOf, eventOf } from '../page/src/detail.js';
 import { matrixOf, printed, tablesOf } from '../page/src/tables.js';
 import { quizOf } from '../page/src/quiz.js';
-import { LINES, hintOf } from '../page/src/texts.js';
+import { LINES, describe, hintOf } from '../page/src/texts.js';
 import { lessonCases } from './page_lessons.mjs';
 import { checkHealed, checkPackets, packetCases } from './page_packets.mjs';
 import { removalCases } from './page_removing.mjs';
 import { placingCases } from './page_placed.mjs';
 import { shownCases } from './page_shown.mjs';
+import { askingCases } from './page_asking.mjs';
+import { verdictCases } from './page_verdict.mjs';
+import { branchCases } from './page_branches.mjs';
+import { pcapCases } from './page_pcap.mjs';
 
-const [program, scripts = '30', seed = '1'] = process.argv.slice(2), folder = mkdtempSync(join(tmpdir(), 'page-'));
+const [program, scripts = '30', seed = '1', ...names] = process.argv.slice(2), folder = mkdtempSync(join(tmpdir(), 'page-'));
 const sources = fileURLToPath(new URL('../page/src', import.meta.url));
 let random = Number(seed);
 const below = count => { random = (random * 1103515245 + 12345) % 2147483648; return Math.floor(random / 65536) % count; };
@@ -256,13 +260,23 @@ const CASES = {
     const script = 'router\niface fe80::1 1 1280 0\nown ::/0 0\nrouter Mid\niface fe80::2 1 1280 0\niface fe80::3 1 1280 1\n'
       + 'router\niface fe80::4 1 1280 1\ncold 0\ncut 1\nround 0\nmend 1\nsilent Mid\nround 15000\nspeaks 1\nround 30000\n';
     const trace = readTrace(ran(script, '--trace'), script), at = line => trace.steps.findLast(({ record }) => record.line === line);
-    same('what is out', [9, 11, 14, 16].map(line => [...at(line).out]), [[['link 1', 10]], [['router 1', 13]], [], []]);
-    same('least costs', [9, 11, 16].map(line => leastCosts(trace, at(line), '::/0')), [[1, 2, 16], [1, 16, 16], [1, 2, 3]]);
-    same('what is said', [at(9), at(11)].map(({ said }) => said),
-      [['line 10: link 1 is cut'], ['line 12: link 1 is mended', 'line 13: Mid fails']]);
-    for (const text of at(11).said) same(text, eventOf(at(11), 0, trace.names).text.includes(text), true);
-    const wiring = wiringOf(trace), state = { trace, wiring, spots: layOut(wiring), pane: { width: 500, height: 400 }, step: 0, shifts: [], chosen: null };
+    same('what is out', [9, 10, 11, 12, 13, 14, 15, 16].map(line => [...at(line).out]),
+      [[], [['link 1', 10]], [['link 1', 10]], [], [['router 1', 13]], [['router 1', 13]], [], []]);
+    same('least costs', [9, 10, 13, 16].map(line => leastCosts(trace, at(line), '::/0')), [[1, 2, 3], [1, 2, 16], [1, 16, 16], [1, 2, 3]]);
+    same('what is said', [10, 12, 13, 15].map(line => describe(at(line).record, trace.names)),
+      ['link 1 is cut', 'link 1 is mended', 'Mid fails', 'Mid is up again']);
+    same('in the list', eventOf(at(13), 0, trace.names).text.includes('Mid fails'), true);
+    const wiring = wiringOf(trace), state = { trace, wiring, spots: layOut(wiring), pane: { width: 500, height: 400 }, step: 1, shifts: [], chosen: null };
     same('the wire', drawingOf(state).parts.map(({ text }) => text.includes('class="wire cut"')), drawingOf(state).parts.map((_, part) => part === 1));
+  },
+  // Of lines that are no event each has a step, at the end of a script too, and so has one that is refused as it has to be.
+  'lines that are no event have a step': () => {
+    const stepsOf = script => readTrace(ran(script, '--trace'), script).steps.map(({ record: { line, record } }) => `${line} ${record}`);
+    same('at the end', stepsOf(`${THREE}cut 1\n# Why?\nrefused Outage\nphases 2 1\nsilent 2\n`), ['9 start', '10 outage', '13 outage', '14 outage']);
+    same('up to a refusal', stepsOf(`${THREE}cut 1\nmend 9\nsilent 2\n`), ['9 start', '10 outage', '11 refused']);
+    const script = `${THREE}down 1 0\nup 1 0\n`, { steps } = readTrace(ran(script, '--trace'), script);
+    same('one that its routers notice', steps.map(({ record: { line, record }, out }) => `${line} ${record} ${[...out.keys()]}`.trim()).filter((one, at, all) => one !== all[at - 1]),
+      ['9 start', '10 event link 1', '11 event']);
   },
   // The card has each line of docs/SCRIPTS.md, by its first word, and no other.
   'the card of lines': () => {
@@ -307,10 +321,11 @@ const CASES = {
 // A line of three: R0 owns the prefix; link 0 is between R0 and R1, link 1 between R1 and R2.
 const THREE = 'router\niface fe80::a0 1 1280 0\nown 2001:db8::/32 0\nrouter\niface fe80::b0 1 1280 0\niface fe80::b1 1 1280 1\nrouter\niface fe80::c0 1 1280 1\ncold 0\n';
 const traceOf = script => readTrace(ran(runnable(script), '--trace'), script);
-for (const more of [lessonCases, packetCases, placingCases, removalCases, shownCases]) Object.assign(CASES, more({ ran, same, traceOf, three: THREE }));
+for (const more of [lessonCases, packetCases, placingCases, removalCases, shownCases, askingCases, verdictCases, branchCases, pcapCases]) Object.assign(CASES, more({ ran, same, traceOf, three: THREE }));
 
 let passed = 0, failed = 0;
 function attempt(name, check) {
+  if (names.length > 0 && !names.some(word => name.includes(word))) return;
   try {
     console.log(`ok ${name}${check() ?? ''}`);
     passed++;

@@ -22,6 +22,7 @@ sys.dont_write_bytecode = True
 import browser
 import visits
 from page_class import ClassCases, example
+from seen import FIND
 from suite import Failed, named, play, same
 
 ROOT = pathlib.Path(__file__).resolve().parent.parent
@@ -260,10 +261,20 @@ class Page(ClassCases):
         """The next round is when all regular updates are due: the latest of them."""
         due = max(record["timers"]["regular"] for record in self.trace(folder, LINE) if record["record"] == "event")
         steps = len(self.trace(folder, f"{LINE}round {due}\n"))
-        branch = LINE[:LINE.index("deliver 4 1 0 0")].count("\n") + 2
+        branch = LINE[:LINE.index("deliver 4 1 0 0")].count("\n") + 3
         said = [line.partition(", at ")[0] for line in self.report(folder, "useActs")]
         same("the report", said, [f"round {due} | step {steps} of {steps}", "lose 10 | true", f"tick 1 0 0 | {branch} R1: regular update, 2 sent",
                                   "123", "true", "true", "3 | true"])
+
+    def capture(self, folder):
+        """The button gives what `lab --pcap` writes of the script that was run."""
+        wanted = pathlib.Path(folder) / "wanted.pcapng"
+        self.lab(folder, LINE, "--pcap", wanted)
+        with self.browser() as one:
+            one.open(f"file://{FILE}#line")
+            one.wait('/^step /.test(document.getElementById("where").textContent)')
+            one.click_at(*one.wait(f'{FIND}("save as pcap")'))
+            same("the file", pathlib.Path(one.downloaded("line.pcapng")).read_bytes(), wanted.read_bytes())
 
     # ---- Visits, and times ----
     def visit(self, folder, name):
@@ -287,7 +298,7 @@ def cases_of(page):
     cases = [(f"film of {name}", lambda folder, name=name: page.example(folder, name)) for name in whole]
     cases += [(name.replace("_", " "), getattr(page, name)) for name in (
         "called_off", "acts", "keys", "undo", "drafts", "refused_clicks", "changes", "address", "least_costs", "counting", "edit", "faults",
-        "drawing_stays", "files", "rounds", "updates", "losing", "forging", "cutting", "lessons", "blanks", "names", "quiz", "matrix", "removing", "packets", "crowds", "letters")]
+        "drawing_stays", "files", "capture", "rounds", "updates", "losing", "forging", "cutting", "lessons", "blanks", "names", "embedded", "asking", "quiz", "matrix", "removing", "packets", "crowds", "letters")]
     cases += [(f"visit of a {name}", lambda folder, name=name: page.visit(folder, name)) for name in visits.NAMES]
     return cases + ([("quick", page.quick)] if page.kind == "chromium" else [])
 

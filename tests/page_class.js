@@ -113,10 +113,12 @@ async function cutLinks() {
   await act('untilChange');
   tell(said().startsWith('No route changes'), metrics());
   // A link more comes up now, and a cost holds at both ends.
+  const at = () => all('#drawing .router > circle:first-child').map(({ cx, cy }) => [cx, cy].map(length => Math.round(length.baseVal.value)).join()).join(' '), place = at();
   click(one('.router[data-router="0"]'));
   one('#detail [name=other]').value = '2';
   click(buttonOf('link them'));
   await settled();
+  tell(at() === place);
   tell(script.value.includes('cold 0\ncut 5\n'), lastLine(), said().replace(/ ?undo$/, ''));
   await act('round');
   tell(metrics());
@@ -141,6 +143,54 @@ async function takeLessons() {
   tell(all('#gutter .met').length, script.value.split('\n').filter(line => line.startsWith('expect')).length);
   await type(script.value.replace('expect 1 2001:db8::/32 2', 'expect 1 2001:db8::/32 5'));
   tell(all('#gutter .met').length, all('#gutter .unmet').length, textOf('#gutter .unmet'), said());
+}
+
+// Within another page: the drawing, its remark and the steps, and a way to all of it.
+async function seeEmbedded() {
+  const isSeen = selector => one(selector).checkVisibility() && one(selector).getBoundingClientRect().height > 10;
+  tell(one('#name').value, textOf('#where').split(',')[0], view.chosen);
+  tell(['#prose', '#network', '#step', '#slider', '#verdict', '#whole', '#editor', '#events', '#tables', '#acts', '#detail', '#examples'].filter(isSeen));
+  press('step');
+  await after(500);
+  tell(location.hash, one('#whole').getAttribute('href'), document.documentElement.scrollHeight <= innerHeight);
+}
+
+// A question has its reason; the same moment is seen without asking, alone and beside, by clicks and by a key.
+async function askAround() {
+  await lessonNamed('01-one-hop.lab');
+  const pane = one('#asking'), [without, asked, beside] = all('#asking button'), aside = () => all('#beside .metric').map(badge => badge.textContent.trim()).join(' ');
+  const ways = () => all('#asking [aria-pressed=true]').map(button => button.textContent).join();
+  tell(pane.checkVisibility());
+  await lessonNamed('31-asking.lab');
+  go(view.trace.steps.findIndex(({ record }) => record.record === 'asks'));
+  tell(pane.checkVisibility(), ways(), textOf('#events .now'));
+  press('step');
+  await settled();
+  tell(textOf('#detail .question'), all('#drawing .pile.asks').length, textOf('#drawing .pile.asks title').split(', ').at(-1));
+  click(one('#drawing .pile.asks'));
+  tell(textOf('#detail .question'), textOf('#decoded').split(' ')[0]);
+  const line = script.value.split('\n').indexOf('tell 3 77500') + 1;
+  go(view.trace.steps.findLastIndex(({ record }) => record.line === line));
+  click(without);
+  await settled();
+  tell(ways(), metrics(), textOf('#where').split(', ')[1], all('#checks .check').length, view.chosen);
+  await act('round');
+  tell(said());
+  click(asked);
+  tell(ways(), metrics(), textOf('#asked'), said());
+  click(beside);
+  tell(ways(), metrics(), aside(), one('#drawing').clientWidth < 0.6 * one('#stage').clientWidth, one('#beside').clientWidth > 200);
+  document.activeElement.blur();
+  key('a');
+  await settled();
+  tell(ways(), metrics(), one('#beside').hidden);
+  key('a');
+  key('a');
+  press('last');
+  await act('round');
+  tell(ways(), metrics(), aside(), one('#name').value);
+  click(one('[data-act=quiz]'));
+  tell(pane.checkVisibility(), one('#beside').hidden);
 }
 
 async function fillBlanks() {

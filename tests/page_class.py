@@ -49,7 +49,7 @@ class ClassCases:
              ["This walk goes over link 4, which was cut in line 21. R4 notices at 300 s, in 180 s, unless it learns another route before. | 1 | "
               "A packet for 2001:db8::/32 from here, by the tables: R4 → R0, delivered: R0 originates it. But it is lost on hop 1, R4 → R0: link 4 was cut "
               "in line 21, and no table knows that.",
-              "rounds 7 135000 30000 | A route changed in round 7 from here, 3 minutes later. | 2", "true | 1 2 3 4 5",
+              "rounds 7 135000 30000 | A route changed in round 7 from here, 3 minutes later. | 2", "true | 1 2 3 4 5", "true",
               "true | mend 5 | Link 5 to R2 comes up now. In the script it stands from the start, and is cut until here.", "1 2 2 4 5", "9,9"])
 
     def lessons(self, folder):
@@ -58,11 +58,31 @@ class ClassCases:
         first = 1 + script.index(expects[0])
         checks = ",".join(f"✓ R{router}, 2001:db8::/32: expected {metric}, found {metric}" for router, metric in enumerate((4, 16, 16)))
         same("the report", self.report(folder, "takeLessons"),
-             ["Lesson 1 of 30: How routes come | true | Question: two routers are on one link, and the first has a prefix. How does the second learn "
+             ["Lesson 1 of 31: How routes come | true | Question: two routers are on one link, and the first has a prefix. How does the second learn "
               "of it, with which metric, and does the first then believe its own news?",
-              "02-one-hop-a-round.lab | Lesson 2 of 30: How routes come | false",
+              "02-one-hop-a-round.lab | Lesson 2 of 31: How routes come | false",
               f"They poison each other's route, but each has advertised it to the owner, which now believes router 1. | 4 16 16 | {checks}",
-              f"{len(expects)} | {len(expects)}", f"0 | 1 | {first} | Line {first}: expected R1 2001:db8::/32 5 found 2"])
+              f"{len(expects)} | {len(expects)}", f"0 | 1 | {first} | Line {first}: expected R1 2001:db8::/32 5 found 2. Nothing behind it was run."])
+
+    def asking(self, folder):
+        """By hand: router 3 answers with 10 at once, router 2 with 11 a second later; without asking both wait for the next round. The last
+        round here is at 120 s: by then the routers hold the same both ways."""
+        why = "it lost the route to 2001:db8::/32 at 76.000 s"
+        named = why.replace("it", "R2", 1)
+        differs = "R2: metric 11 with asking, no path for 1.5 s without; R3: metric 10 with asking, no path for 1.5 s without."
+        line = example("lessons/31-asking").split("\n").index("tick 2 76500") + 1
+        same("the report", self.report(folder, "askAround"),
+             ["false", f"true | with asking | {line} R2 asks its neighbors: {why}", f"Why R2 asks: {why}. No link came up. | 1 | a Request: {named}",
+              f"It is a Request: {named}. | request", "without asking | 1 2 16 16 | at 77.500 s | 0 | ",
+              'This is what happens without asking. To change the script, press "with asking" first.',
+              f"with asking | 1 2 11 10 | {differs} | ", "side by side | 1 2 11 10 | 1 2 16 16 | true | true", "without asking | 1 2 16 16 | true",
+              "side by side | 1 2 11 10 | 1 2 11 10 | own-31-asking.lab", "false | true"])
+
+    def embedded(self, folder):
+        route = "router=1&prefix=2001:db8::/32"
+        same("the report", self.report(folder, "seeEmbedded", fragment=f"ring-of-three&step=5&{route}&embed"),
+             ["11-ring-of-three.lab | step 5 of 205 | route 1 2001:db8::/32", "#prose,#network,#step,#slider,#verdict,#whole",
+              f"#11-ring-of-three&step=6&{route}&embed | #11-ring-of-three&step=6&{route} | true"])
 
     def blanks(self, folder):
         same("the report", self.report(folder, "fillBlanks"),

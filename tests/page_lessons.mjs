@@ -4,11 +4,11 @@ import { fileURLToPath } from 'node:url';
 import { nextStop } from '../page/src/trace.js';
 import { updatesOf } from '../page/src/walks.js';
 import { covers, oneResponse } from '../page/src/datagrams.js';
-import { joined, networkScript, placesOf, withPlaces } from '../page/src/building.js';
+import { SHAPES, inserted, joined, networkScript, placesOf, withPlaces } from '../page/src/building.js';
 import { captionsOf, checksOf, expectationsOf, metricIn, questionIn, withAnswer } from '../page/src/lessons.js';
 import { losing } from '../page/src/losing.js';
 import { keysOf, renumbered } from '../page/src/numbering.js';
-import { fitted, layOut, wiringOf } from '../page/src/layout.js';
+import { fitted, layOut, linksApart, wiringOf } from '../page/src/layout.js';
 import { drawingOf } from '../page/src/drawing.js';
 import { detailOf } from '../page/src/detail.js';
 import { guessed, markGuess, reveal, scoreOf } from '../page/src/quiz.js';
@@ -95,6 +95,8 @@ export function lessonCases({ ran, same, traceOf, three }) {
       same('the number', after.split('\n').find(line => line.startsWith('deliver')), 'deliver 6 1 0 0');
       same('the link is cut at first', [after.includes('cold 0\ncut 2\n'), after.endsWith('mend 2\n')], [true, true]);
       same('it holds', metricsAt(traceOf(after)), [1, 2, null]);
+      const refused = `${three}round 0\nrefused NoSuchDatagram\nhear but 0\n`, more = inserted(refused, ['round 15000'], 'end', 0), had = traceOf(refused);
+      same('one that is refused stays', renumbered({ had: keysOf(had), was: had, old: refused }, more, traceOf(more.script)), more.script);
     },
     'places of routers': () => {
       const script = withPlaces('a\nb\n', [undefined, { x: 0.5, y: -1 }]);
@@ -115,6 +117,19 @@ export function lessonCases({ ran, same, traceOf, three }) {
       same('whether they have room', fitted(rows, [], { width: 520, height: 300 }).roomy, true);
       const ring = spotsOf(networkScript('ring', 5)), lengths = ring.map(({ x, y }, spot) => Math.hypot(x - ring[(spot + 1) % 5].x, y - ring[(spot + 1) % 5].y).toFixed(3));
       same('a ring', [new Set(lengths).size, ring.every(({ y }) => y >= ring[0].y)], [1, true]);
+    },
+    // A link more or less is one; a line and a ring of as many routers are one apart, a star and a line are not.
+    'how far networks are apart': () => {
+      const of = (shape, count) => traceOf(networkScript(shape, count)), line = of('line', 5), more = traceOf(joined(networkScript('line', 5), 0, 2, 1).script);
+      same('links', [[line, line], [line, more], [more, line], [line, of('ring', 5)], [line, of('star', 5)]].map(([one, other]) => linksApart(one, other)), [0, 1, 1, 1, 6]);
+    },
+    // By hand: six routers in two rows of three, and in a tree of three ranks.
+    'grids and trees': () => {
+      same('a grid', SHAPES.grid(6).map(String), ['0,1', '0,3', '1,2', '1,4', '2,5', '3,4', '4,5']);
+      same('one that is not full', SHAPES.grid(5).map(String), ['0,1', '0,3', '1,2', '1,4', '3,4']);
+      same('a tree', SHAPES.tree(6).map(String), ['0,1', '0,2', '1,3', '1,4', '2,5']);
+      const spots = layOut(wiringOf(traceOf(networkScript('grid', 9)))), beside = SHAPES.grid(9).map(([a, b]) => Math.hypot(spots[a].x - spots[b].x, spots[a].y - spots[b].y));
+      same('whether it is seen as one', Math.max(...beside) < 1.3 * Math.min(...beside), true);
     },
     'prefixes in others': () => same('them', [covers('::/0', '2001:db8::/32'), covers('2001:db8::/32', '2001:db8:1::/48'), covers('2001:db8:1::/48', '2001:db8::/32'), covers('2001:db8:2::/48', '2001:db8:1::/48')], [true, true, false, false]),
     // R1 learned the prefix on link 0: there it advertises it at 16, on link 1 at 2.

@@ -9,6 +9,7 @@ import { checksOf, expectationsOf, plainLines, withAnswer } from '../page/src/le
 import { joined, networkScript } from '../page/src/building.js';
 import { oneResponse } from '../page/src/datagrams.js';
 import { LINES } from '../page/src/texts.js';
+import { axisOf } from '../page/src/plot.js';
 
 export function shownCases({ same, traceOf, three }) {
   const drawn = (trace, more = {}) => {
@@ -48,7 +49,20 @@ export function shownCases({ same, traceOf, three }) {
       const inside = pattern => [...text.matchAll(pattern)].map(([, found]) => found);
       same('the numbers of costs', inside(/<text x="[^"]*" y="[^"]*" font-size="(?:12|8\.5)">(\d+)<\/text><title>R\d interface/g), ['1', '4']);
       same('hops', inside(/class="hop-name"[^>]*>(.)</g), ['①', '②']);
-      same('an envelope has no number but in its title', [/class="pile[^]*?<text[^>]*>\d/.test(text), text.includes('<title>datagram')], [false, true]);
+    },
+    // R0 owns the prefix, and advertises 1 at 60 s. R2 learned it from R1, and poisons it there: 16. Where R1's update comes to R2,
+    // 2 is advertised, and the link costs 4.
+    'the metric on an envelope': () => {
+      const costly = three.replace('iface fe80::c0 1', 'iface fe80::c0 4'), told = (trace, more) => [...drawn(trace, more).matchAll(/class="(told[^"]*)"[^>]*>(\d+)</g)].map(([, kind, metric]) => `${kind} ${metric}`);
+      const sent = traceOf(`${costly}rounds 3 0 15000\ntick 0 60000 0\n`), poison = traceOf(`${costly}rounds 3 0 15000\ntick 2 60000 0\n`);
+      same('of the owner', told(sent), ['told 1']);
+      same('with poison', told(poison), ['told unreachable 16']);
+      same('for another prefix', told(sent, { chosen: 'route 0 2001:db8:1::/48' }), []);
+      const trace = traceOf(`${costly}rounds 3 0 15000\n`), step = trace.steps.findLastIndex(({ record }) => record.router === 2 && record.event?.kind === 'deliver');
+      const sums = more => [...drawn(trace, { step, ...more }).matchAll(/>(\d+ \+ \d+ = \d+)</g)].map(([, sum]) => sum);
+      same('where it comes', sums({}), ['2 + 4 = 6']);
+      const checks = [{ line: 99, router: 1, prefix: '2001:db8:5::/48', wanted: '?', step: 1, isBlank: true }];
+      same('while a blank is open, and in a quiz', [sums({ checks }), told(sent, { checks }), told(sent, { isQuiz: true, guesses: new Map() })], [[], [], []]);
     },
     // A blank asks for R1's metric behind the first round, which is 2, and one for R2's behind the second, which is 3.
     'what a blank asks for is not told': () => {
@@ -106,6 +120,25 @@ export function shownCases({ same, traceOf, three }) {
       same('routes', lines[0].map(line => line.split(' ').slice(0, 2).join(' ')), ['Bonn 2001:db8::/32', 'R1 2001:db8::/32', 'R2 2001:db8::/32']);
       same('paths', [...lines[1], ...lines[3]], ['R2 2001:db8::1 path R2 R1 Bonn delivered', 'R2 2001:db8::1 lost at R1: silent', 'R2 2001:db8::1 path R2 R1 Bonn delivered', 'R2 2001:db8::1 lost at R1: link 0 is cut']);
       same('datagrams', lines[2][0].startsWith('4 router Bonn iface 0 group '), true);
+    },
+    // By hand: R0 has 1 from the start, R1 2 from the first round at 0 s, R2 3 from the second at 15 s. At 31 s all lose it.
+    'the staircase of all routers': () => {
+      const script = `${three}rounds 3 0 15000\ndrop 0 31000 2001:db8::/32\nrounds 2 45000 15000\n`, trace = traceOf(script), { values, marks, name } = axisOf(trace);
+      same('the axis', [name, marks, values.at(-1)], ['seconds', [0, 10, 20, 30, 40, 50, 60], 60]);
+      same('that of a script at one moment', [axisOf(traceOf(`${three}round 0\n`)).name, axisOf(traceOf(three)).values], ['step', [1]]);
+      const plot = more => told(trace, { chosen: 'route 2 2001:db8::/32', ...more }), paths = [...plot({}).matchAll(/class="line-(\d) (other|held)" d="([^"]*)"/g)].map(([, line, kind, d]) => [line, kind, (d.match(/[VM]/g) ?? []).length]);
+      same('lines, each with its levels', paths, [['0', 'other', 2], ['1', 'other', 2], ['2', 'held', 2]]);
+      same('whose they are', /<figcaption>(.*?)<\/figcaption>/.exec(plot({}))[1].replace(/<[^>]*>/g, ''), 'The metric of R0, R1, R2; dashed, the shortest path of R2; upright, this step.');
+      const checks = [{ line: 99, router: 0, prefix: '2001:db8::/32', wanted: '?', step: 99, isBlank: true }];
+      same('while a blank is open', plot({ checks }).includes('id="plot"'), false);
+    },
+    // Rounds are counted from 1 where people read them; a router that is down has no timers; 16 is not added to.
+    'words that could mislead': () => {
+      const trace = traceOf(`${three}rounds 5 0 15000\nsilent 1\n`), ended = trace.steps.find(({ record }) => record.record === 'rounds');
+      same('the last change', eventOf(ended, 0, trace.names).text.includes('5 rounds, the last change in round 2'), true);
+      same('one that is down', [told(trace, { chosen: 'router 1' }), told(trace, { chosen: 'router 2' })].map(text => [/It is down/.test(text), /update is due/.test(text)]), [[true, false], [false, true]]);
+      const poisoned = trace.steps.findLastIndex(({ record }) => record.event?.kind === 'deliver' && record.router === 1 && trace.datagrams[record.event.datagram].router === 2);
+      same('unreachable', told(trace, { step: poisoned }).includes('none: unreachable'), true);
     },
     // What a link's panel offers is what scripts have lines for.
     'a cut is silent': () => {

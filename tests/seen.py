@@ -49,7 +49,7 @@ SMALL = '''[...document.querySelectorAll('button, select, input, [role=button]:n
   const { width, height } = target.getBoundingClientRect();
   return width < 23.9 || height < 23.9 && target.type !== 'range';
 }).map(target => target.getAttribute('aria-label') ?? target.textContent).join()'''
-SHOWN = '''['header button', '#left', '#acts', '#tables table', '#drawing svg'].filter(words => document.querySelector(words).checkVisibility()).join()'''
+SHOWN = '''['header button', '#editor', '#acts', '#tables table', '#drawing svg'].filter(words => document.querySelector(words).checkVisibility()).join()'''
 
 
 def text_of(selector):

@@ -15,7 +15,7 @@ INSTALLED = re.compile(r"^(/usr/)?share/doc/ripngd/")
 # A name with a part in capitals, as NAME.toml or crates/C/src, stands for many; README.md and its like are files, and found before.
 ANY = re.compile(r"(^|/)[A-Z]+([./]|$)")
 # Files that somebody else makes, and who does.
-ELSEWHERE = {"router.toml": "the companion", "line.html": "make film"}
+ELSEWHERE = {"router.toml": "the companion", "status.json": "the companion", "line.html": "make film"}
 # Words in code's letters that stand in no file of this tree, and whose they are.
 FOREIGN = {"AllZip": "the kit", "IsX": "a pattern", "x_of": "a pattern", "rmem_default": "Linux", "_is_free": "the end of names"}
 CODE = {".rt", ".antt", ".py", ".sh", ".js", ".mjs", ".c", ".css", ".edit", ".toml", ".case", ".lab", ".service", ""}

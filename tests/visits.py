@@ -12,12 +12,13 @@ import sys
 
 import browser
 from newcomer import BY_WIDTH, Newcomer
+from reading import Reader
 from seen import CUT_OFF, FIND, METRICS, NAMES_KEPT, ROUTE, SHOWN, SMALL, STILL, TEXT_KEPT, WIDE, same, text_of
 
-NAMES = ('newcomer', 'keyboard', 'sizes', 'phone', 'room', 'drafts', 'undone', 'places', *BY_WIDTH)
+NAMES = ('newcomer', 'keyboard', 'sizes', 'phone', 'room', 'drafts', 'undone', 'places', 'first', 'lessons', 'branches', *BY_WIDTH)
 
 
-class Visit(Newcomer):
+class Visit(Newcomer, Reader):
     def __init__(self, page, url):
         self.page, self.url = page, url
         self.open(url)
@@ -112,6 +113,13 @@ class Visit(Newcomer):
         self.click(f'{ROUTE} at R4: why metric 5?')
         same('the sum', self.read('#sum b'), '1 + 1 + 1 + 1 + 1 = 5')
         same('the packet', self.read('#packet b'), 'R4 → R3 → R2 → R1 → R0')
+        for router, metric in enumerate((1, 2, 3, 4, 5)):
+            self.click('close')
+            self.page.value('scrollTo(0, 0)')
+            self.click(f'{ROUTE} at R{router}: why metric {metric}?')
+            bottom, top = self.page.value(f'[document.querySelector(".router[data-router=\\"{router}\\"] circle").getBoundingClientRect().bottom, '
+                                          'document.getElementById("detail").getBoundingClientRect().top]')
+            same(f'whether R{router} is above what is told of it, {bottom} and {top}', bottom <= top, True)
         self.click('close')
         self.recorded()
 
@@ -195,6 +203,7 @@ class Visit(Newcomer):
         self.click('first')
         for _ in range(3):
             self.page.press('ArrowRight')
+        self.page.value('(place => { place.value = "end"; place.dispatchEvent(new Event("change")); })(document.getElementById("place"))')
         before = self.read('#where')
         same('the step', before.split(' of ')[0], 'step 4')
         self.happens(lambda: self.click('round'))
@@ -262,6 +271,14 @@ class Visit(Newcomer):
     def keyboard(self):
         """Every pane is reached by Tab, a chosen example stays when one steps, and typing, Enter and Escape do what they say."""
         focus = 'document.activeElement.id || document.activeElement.dataset.act || document.activeElement.dataset.choose?.split(" ")[0]'
+        self.page.press('Tab')
+        same('what Tab comes to first', self.page.value('document.activeElement.textContent'), 'to the network')
+        self.page.press('Enter')
+        same('where that leads', self.page.value(focus), 'router')
+        self.page.press('ArrowRight')
+        same('what is heard of a step', self.read('#happened').startswith('line '), True)
+        self.page.press('Home')
+        self.open(self.url)
         missed = {'examples', 'first', 'load', 'script', 'step', 'router', 'round', 'route'}
         for _ in range(60):
             self.page.press('Tab')
@@ -276,10 +293,9 @@ class Visit(Newcomer):
             self.page.press(key)
         same('the example', self.page.value(example), chosen)
         same('the step', self.read('#where').split(' of ')[0], 'step 2')
-        self.page.press('End')
         self.page.value('document.querySelector("#tables [tabindex=\\"0\\"]").focus()')
         self.page.press('Enter')
-        same('whether a route is asked', self.read('#detail h2').startswith('Why '), True)
+        self.comes('a route is asked', f'{text_of("#detail h2")}.startsWith("Why ")')
         same('the focus', self.page.value(focus), 'route')
         self.page.press('Escape')
         same('what is chosen', self.read('#detail h2'), '')

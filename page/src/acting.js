@@ -3,6 +3,7 @@ import { hasCome, nameOf, onTheirWay, otherEnds, prefixInView } from './trace.js
 import { decode } from './datagrams.js';
 import { LINES, plural, seconds } from './texts.js';
 import { titleOf } from './tables.js';
+import { questionText } from './marks.js';
 import { html } from './markup.js';
 
 // The step behind which new lines go.
@@ -30,8 +31,9 @@ export const packetForm = (state, target) => choices(html`${field(state, 'target
 function routerDetail(state, { router }) {
   const { timers: { regular, due, hold }, quiet } = state.trace.steps[state.step].routers[router], { now } = state.trace.steps[state.step];
   const isDown = isOut(state, `router ${router}`), waits = hold > now ? `, triggered updates are delayed until ${seconds(hold)}` : '';
-  return html`<h2>${titleOf(state.trace, router, quiet)}</h2><p>Its regular update is due at ${seconds(regular)}${waits}${
-    due ? `, its route to ${due.prefix} ends at ${seconds(due.until)}` : ''}.</p>
+  const timers = `Its regular update is due at ${seconds(regular)}${waits}${due ? `, its route to ${due.prefix} ends at ${seconds(due.until)}` : ''}.`;
+  return html`<h2>${titleOf(state.trace, router, quiet)}</h2><p>${
+    state.trace.steps[state.step].out.has(`router ${router}`) ? 'It is down: its timers do not run, and its routes stay as they were.' : timers}</p>
     ${choices(html`${isDown ? does('bring it up', `speaks ${router}`, 'c') : does('let it fail', `silent ${router}`, 'c')}
       <button data-act="why" data-key="w">why this metric?</button> ${moment(state)}${does('send what is due', `tick ${router} {now} 0`)}
       ${does('restart', `restart ${router} {now}`)} ${state.trace.ends.length > 1 ? removes('router', router) : ''}`)}${packetForm(state, prefixInView(state))}${ownersForm(state, router)}
@@ -103,7 +105,7 @@ function forgeries(state, router, iface) {
 
 // ---- A datagram ----
 function datagramDetail(state, { number }) {
-  const { trace, step } = state, datagram = trace.datagrams[number], { end, peer, sentAt, bytes } = datagram;
+  const { trace, step } = state, datagram = trace.datagrams[number], { end, peer, sentAt, bytes } = datagram, question = questionText(state, datagram);
   const others = otherEnds(trace, end), again = other => hasCome(datagram, other, Infinity) ? 'again ' : '';
   const deliver = other => does(`deliver ${again(other)}to ${nameOf(trace, other.router)}, if ${other.iface}`,
     `deliver ${number} ${other.router} ${other.iface} {now}`);
@@ -112,6 +114,7 @@ function datagramDetail(state, { number }) {
   return html`<h2>Datagram ${number} of ${nameOf(trace, end.router)}, interface ${end.iface}</h2>
     <p>Sent in <button class="link" data-choose="step ${sentAt}">line ${trace.steps[sentAt].record.line}</button> to
       ${peer ? `${peer.addr} port ${peer.port}` : 'the group of all RIPng routers'}. ${fateOf(trace, datagram, step)}</p>
+    ${question ? html`<p class="question">It is ${question}.</p>` : ''}
     ${sentAt > step ? '' : choices(html`${loseButtons(datagram)}${moment(state)}${others.map(deliver)}`)}
     <pre id="decoded">${decode(bytes)}</pre>
     <details><summary>its ${plural(bytes.length / 2, 'byte')}</summary><pre>${bytes.match(/.{1,40}/g).join('\n')}</pre></details>

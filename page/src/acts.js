@@ -1,16 +1,21 @@
 // What the buttons of the page do. Each act on the network is lines of the script.
 import { named, nameOf, prefixInView, readTrace } from './trace.js';
 import { oneResponse, wholeRequest } from './datagrams.js';
+import { captureOf } from './pcap.js';
 import { targetIn } from './packets.js';
-import { inserted, joined, networkScript, withName, withPlaces } from './building.js';
+import { inserted, joined, networkScript, ownLines, withName, withPlaces } from './building.js';
 import { stepsByLine, turnsOf } from './losses.js';
 import { losing } from './losing.js';
+import { branched, branchesOf, switched, withoutBranch } from './branching.js';
 import { without } from './removing.js';
 import { metricIn, runnable, withAnswer } from './lessons.js';
-import { hasChanged, printed } from './tables.js';
+import { comparisonOf, hasChanged, printed } from './tables.js';
+import { html } from './markup.js';
 import { markGuess, reveal } from './quiz.js';
 import { stepOfNew } from './acting.js';
-import { plural } from './texts.js';
+import { stepBeside, withoutAsking } from './asking.js';
+import { wiringOf } from './layout.js';
+import { plural, seconds } from './texts.js';
 
 // The fields beside a button by name, the moment of the detail among them, if all of them hold what they may; else
 // null, and the browser says which does not.
@@ -26,12 +31,25 @@ function fields(button) {
 const fellows = button => button.closest('details')?.previousElementSibling?.querySelectorAll('input') ?? [];
 
 // Where new lines go: behind the line of this step, or at the end.
-const placeLine = () => view.place === 'end' ? editor.text.replace(/\n*$/, '').split('\n').length : current()?.record.line ?? 0;
+const placeLine = () => view.place === 'end' || isAtEnd() ? ownLines(editor.text) : current()?.record.line ?? 0;
+
+// Whether what was run ends at this step, but for a line that is refused.
+const isAtEnd = () => view.step >= view.trace.steps.length - (view.refused ? 2 : 1);
+// Whether an act here sets aside what follows.
+const setsAside = () => view.place === 'branch' && !isAtEnd();
+const editHere = lines => setsAside() ? branched(view.trace, editor.text, view.step, lines)
+  : inserted(editor.text, lines, view.place === 'here' && !isAtEnd() ? 'here' : 'end', placeLine());
+// What is said of an act that sets something aside.
+const setAside = ({ number }) => number ? `Done at this step, at ${seconds(current().now)}. What followed is set aside as a branch, and can be gone back to. ` : '';
 
 async function canPutIn() {
   if (view.ran !== editor.text) await runDraft();
   if (view.ran !== editor.text || !view.wiring) return false;
-  if (!view.refused) return true;
+  if (view.way === 'without') {
+    say('This is what happens without asking. To change the script, press "with asking" first.', true);
+    return false;
+  }
+  if (!view.refused || setsAside()) return true;
   say(`Line ${view.refused.line} is refused, so no line after it is reached. Correct it first, or undo.`, true);
   return false;
 }
@@ -40,8 +58,8 @@ async function canPutIn() {
 async function putIn(lines, values = {}, said = '') {
   if (!await canPutIn()) return;
   const added = lines.replace(/\{(\w+)\}/g, (_, name) => values[name]).split('\n');
-  const edit = inserted(editor.text, added, view.place, placeLine());
-  await change(edit, edit.first + added.length, edit.first + added.length - 1, said);
+  const edit = editHere(added);
+  await change(edit, edit.first + added.length, edit.first + added.length - 1, `${setAside(edit)}${said}`);
   view.typed = {};
 }
 
@@ -54,7 +72,7 @@ const chosenRouter = () => named(view.chosen, view.trace).router;
 function passedBy() {
   const { datagrams } = view.trace, waiting = datagrams.filter(({ doneAt, lostAt, bytes }) =>
     Math.min(doneAt, lostAt) === Infinity && bytes.startsWith('02')).length;
-  return waiting === 0 || view.place !== 'end' ? '' : `${plural(waiting, 'datagram')} under way ${waiting === 1 ? 'is' : 'are'} lost: a
+  return waiting === 0 || !isAtEnd() ? '' : `${plural(waiting, 'datagram')} under way ${waiting === 1 ? 'is' : 'are'} lost: a
     round delivers its own. "deliver all" delivers them before.`;
 }
 
@@ -62,7 +80,7 @@ function passedBy() {
 const MOST_ROUNDS = 20;
 async function untilChange() {
   if (!await canPutIn()) return;
-  const at = nextRound(), edit = inserted(editor.text, [`rounds ${MOST_ROUNDS} ${at} 30000`], view.place, placeLine());
+  const at = nextRound(), edit = editHere([`rounds ${MOST_ROUNDS} ${at} 30000`]);
   await runScript(() => traced(runnable(edit.script)), answer => {
     const trace = readTrace(answer, edit.script), own = stepsByLine(trace.steps).get(edit.first) ?? [];
     const ends = turnsOf(trace.steps, own).map(turn => turn.at(-1)), isOther = (step, router) =>
@@ -93,6 +111,49 @@ async function remove({ dataset: { thing } }) {
     : ` ${off === 1 ? 'A line that does' : `${off} lines that do`} not hold without it: set aside as #off.`}`);
 }
 
+// ---- Branches ----
+// To the branch of that number, at the step at which it leaves; what was shown is the branch then.
+function toBranch({ dataset }) {
+  const { number, line } = branchesOf(editor.text).find(one => one.number === Number(dataset.number)) ?? branchesOf(editor.text)[0] ?? {};
+  if (!number) return say('There is no branch.', true);
+  setDraft(switched(editor.text, number));
+  return runDraft(({ steps }) => Math.max(0, stepOfLine(steps, line)));
+}
+function dropBranch({ dataset }) {
+  setDraft(withoutBranch(editor.text, Number(dataset.number)));
+  return runDraft().then(() => say('The branch is dropped.', false, html`<button data-act="undo">undo</button>`));
+}
+
+// What the routers hold at the end of each, beside each other, where it is not the same.
+function compareBranch({ dataset }) {
+  const { number, here, there } = branchesOf(editor.text).find(one => one.number === Number(dataset.number)) ?? branchesOf(editor.text)[0] ?? {};
+  if (!number) return say('There is no branch.', true);
+  const script = switched(editor.text, number);
+  return runScript(() => traced(runnable(script)), answer => {
+    fill('comparison', comparisonOf(view.trace, readTrace(answer, script), here, there));
+    byId('compare').showModal();
+  });
+}
+
+// ---- With and without asking ----
+// The run without asking is made once it is wanted. It takes the place of the other, at the same moment, or stands beside it.
+async function showAsking(way) {
+  const { asking, script } = view, plain = asking && withoutAsking(script);
+  if (!asking) return say('No line of this script is "asking".', true);
+  if (!asking.other) await runScript(() => traced(plain), answer => {
+    const other = readTrace(answer, plain);
+    Object.assign(asking, { other, others: wiringOf(other) });
+  });
+  if (!asking.other || view.asking !== asking) return;
+  const from = view.trace, to = way === 'without' ? asking.other : asking.trace, step = from === to ? view.step : stepBeside(from, to, view.step);
+  view.way = way;
+  if (from === to) return view.span ? undefined : render();
+  const [wiring, checks] = way === 'without' ? [asking.others, []] : [asking.wiring, asking.checks];
+  Object.assign(view, { trace: to, wiring, checks, eventsFrom: null, chosen: /^datagram/.test(view.chosen) ? null : view.chosen });
+  return go(step, step - 1, false);
+}
+const ASKING_WAYS = ['with', 'beside', 'without'];
+
 // ---- Quiz, and blanks ----
 function toggleQuiz(button) {
   Object.assign(view, { isQuiz: toggle(button, 'quiz'), chosen: null });
@@ -107,15 +168,23 @@ function showGuesses(routers) {
   render();
 }
 
+// How many blanks are filled in with this one, and how many of them at the first try.
+function blanksText() {
+  const done = [...view.tries.values()], open = view.checks.filter(({ isBlank }) => isBlank).length - 1;
+  const isDone = line => !view.checks.some(check => check.line === line && check.isBlank), filled = [...view.tries.keys()].filter(isDone).length + 1;
+  return `${filled} of ${filled + open}, ${done.filter(wrong => wrong === 0).length} at the first try.`;
+}
+
 // A right answer takes the place of the blank in the script; a wrong one is said to be wrong.
 function answerBlank(line) {
   const { found } = view.checks.find(check => check.line === line), text = byId('checks').querySelector(`[data-blank="${line}"]`).value;
   const metric = metricIn(text);
   if (metric === null) return say('A metric is 1 to 16, or none.', true);
   view.wrong = metric === found ? null : { line, text: metric };
+  view.tries.set(line, (view.tries.get(line) ?? 0) + (view.wrong ? 1 : 0));
   if (view.wrong) return render();
   const { step, since } = view;
-  return change({ script: withAnswer(editor.text, line, found) }, line, line, 'Right.').then(() => go(step, since, false));
+  return change({ script: withAnswer(editor.text, line, found) }, line, line, `Right. ${blanksText()}`).then(() => go(step, since, false));
 }
 
 // ---- Places, and other ways to show ----
@@ -160,11 +229,15 @@ function toLesson(by) {
   return name && openNamed(name);
 }
 
+// A teacher's first picture, and the first of who opens the page.
+const COUNTING = '11-ring-of-three.lab';
 const ACTS = {
-  undo, redo, share, copyLink, present, lose, remove, untilChange, markAll, hush, quiz: toggleQuiz, again: () => runDraft(), stop: stopRun,
+  count: () => openNamed(COUNTING).then(() => play(true)),
+  undo, redo, share, copyLink, toBranch, dropBranch, compareBranch, present, lose, remove, untilChange, markAll, hush, quiz: toggleQuiz, again: () => runDraft(), stop: stopRun,
   film: saveFilm,
   save: () => download('.lab', editor.text, 'text/plain'),
   load: () => byId('file').click(),
+  pcap: () => view.wiring && download('.pcapng', captureOf(view.trace), 'application/octet-stream'),
   svg: () => view.wiring && download('.svg', drawingAlone(), 'image/svg+xml'),
   copy: () => copy(printed(current()), `The routes at step ${view.step + 1}`),
   round: () => putIn(`round ${nextRound()}`, {}, passedBy()),
@@ -181,6 +254,8 @@ const ACTS = {
   matrix() { view.isMatrix = !(view.isMatrix ?? view.trace.ends.length >= MANY_ROUTERS); render(); },
   why: () => choose(`route ${chosenRouter()} ${prefixInView(view)}`),
   letGo: () => choose(null),
+  toNetwork: () => byId('drawing').querySelector('[tabindex="0"]')?.focus(),
+  asking: ({ dataset }) => showAsking(dataset.way),
   answer: ({ dataset }) => answerBlank(Number(dataset.line)),
   reveal: ({ dataset }) => showGuesses([Number(dataset.router)]),
   revealAll: () => showGuesses(view.trace.ends.keys()),
@@ -199,11 +274,13 @@ const MAKES = {
   name: ({ name }) => change({ script: withName(editor.text, chosenRouter(), name) }, Infinity),
   async join({ other, cost }) {
     if (!await canPutIn()) return;
-    const edit = joined(editor.text, chosenRouter(), Number(other), Number(cost), placeLine());
+    const aside = setsAside() ? branched(view.trace, editor.text, view.step, []) : null, script = aside?.script ?? editor.text;
+    const edit = joined(script, chosenRouter(), Number(other), Number(cost), aside ? ownLines(script) : placeLine());
+    if (edit && aside) edit.origins = edit.origins.map(line => line ? aside.origins[line - 1] : 0);
     if (!edit) return say('Choose another router.', true);
     const to = nameOf(view.trace, Number(other)), said = edit.isLate
       ? `Link ${edit.link} to ${to} comes up now. In the script it stands from the start, and is cut until here.` : '';
-    await change(edit, Infinity, edit.isLate ? edit.origins.length : undefined, said);
+    await change(edit, Infinity, edit.isLate ? ownLines(edit.script) : undefined, `${setAside(aside ?? {})}${said}`);
   },
 };
 

@@ -7,6 +7,21 @@ export const SHAPES = {
   ring: count => [...SHAPES.line(count), ...count > 2 ? [[0, count - 1]] : []],
   star: count => upTo(count - 1, router => [0, router + 1]),
   'one link': count => [upTo(count, router => router)],
+  grid: count => {
+    const wide = Math.ceil(Math.sqrt(count)), isIn = ([, to]) => to < count;
+    return upTo(count, router => router).flatMap(router => [...(router + 1) % wide ? [[router, router + 1]] : [], [router, router + wide]]).filter(isIn);
+  },
+  tree: count => upTo(count - 1, router => [router >> 1, router + 1]),
+  // Each router is linked to one before it, and half as many links more are there; another network each time.
+  random: count => {
+    const below = many => Math.floor(many * Math.random()), found = new Map();
+    for (let router = 1; router < count; router++) { const to = below(router); found.set([to, router].join(), [to, router]); }
+    for (let more = 0; more < count / 2; more++) {
+      const pair = [below(count), below(count)].sort((a, b) => a - b);
+      if (pair[0] !== pair[1]) found.set(pair.join(), pair);
+    }
+    return [...found.values()];
+  },
   'all to all': count => SHAPES.star(count).flatMap(([, to]) => upTo(to, from => [from, to])),
 };
 
@@ -31,9 +46,9 @@ export const linksIn = lines => lines.filter(line => line.startsWith('iface ')).
 
 // For each router of a script its name, if it has one, and where its line, the end of its lines and its interfaces are.
 function sections(lines) {
-  const found = [], cold = lines.findIndex(line => line.startsWith('cold'));
+  const found = [], cold = lines.findIndex(line => line.trim().startsWith('cold'));
   lines.slice(0, cold < 0 ? lines.length : cold).forEach((line, at) => {
-    const [word, ...rest] = line.split(' ');
+    const [word, ...rest] = line.trim().split(' #')[0].split(' ');
     const name = rest.find(text => text !== 'quiet' && /^[a-z]/i.test(text));
     if (word === 'router') found.push({ at, end: at + 1, ifaces: [], name });
     else if (/^(iface|own)$/.test(word) && found.length > 0) found.at(-1).end = at + 1;
@@ -46,7 +61,7 @@ function sections(lines) {
 export const namesOf = script =>
   new Map(sections(script.split('\n')).flatMap(({ name }, router) => name ? [[router, name]] : []));
 export function withName(script, router, name) {
-  const lines = script.split('\n'), { at } = sections(lines)[router], [head] = /^router( quiet)?/.exec(lines[at]);
+  const lines = script.split('\n'), { at } = sections(lines)[router], [head] = /^\s*router( quiet)?/.exec(lines[at]);
   return lines.with(at, `${head} ${name}`.trim()).join('\n');
 }
 
@@ -77,9 +92,16 @@ export function joined(script, from, to, cost, line = null) {
   return { ...spliced(script, [...added, ...late]), link, isLate: isRunning };
 }
 
+// Where the branches of a script begin (`branching.js`), and how many lines it has before them: new lines go behind those.
+export const BRANCH = /^#branch (\d+)$/;
+export const ownLines = script => {
+  const lines = script.replace(/\n*$/, '').split('\n'), end = lines.findIndex(line => BRANCH.test(line));
+  return end < 0 ? lines.length : end;
+};
+
 // The script with lines put in: at the end, or behind a line, with what follows or without; and the first's number.
 export function inserted(script, added, place, line) {
-  const count = script.replace(/\n*$/, '').split('\n').length, at = place === 'end' ? count : line;
+  const count = ownLines(script), at = place === 'end' ? count : line;
   const rest = place === 'branch' ? [{ at, remove: count - at, lines: [] }] : [];
   return { ...spliced(script, [...rest, { at, lines: added }]), first: at + 1 };
 }

@@ -44,7 +44,8 @@ export function covers(wide, prefix) {
   return wide === prefix || length <= own && bitsOf(wide).slice(0, length) === bitsOf(prefix).slice(0, length);
 }
 
-const digits = (number, bytes) => Number(number).toString(16).padStart(2 * bytes, '0');
+// A number in so many bytes.
+export const digits = (number, bytes) => Number(number).toString(16).padStart(2 * bytes, '0');
 // A Request for all routes, and a Response with one entry.
 export const wholeRequest = () => `01010000${'0'.repeat(38)}10`;
 export function oneResponse(prefix, tag, metric) {

@@ -1,20 +1,21 @@
 // What is told beside the drawing: events, what happened at a step, and why a metric is what it is.
 import { nameOf, named } from './trace.js';
 import { UNREACHABLE } from './datagrams.js';
-import { leastCosts, metricRuns, offersOf, updatesOf, walkOf, wayText, withoutRings } from './walks.js';
-import { LINES, describe, hintOf, plural, refusals, seconds } from './texts.js';
+import { leastCosts, offersOf, updatesOf, walkOf, wayText, withoutRings } from './walks.js';
+import { LINES, describe, hintOf, whyAsks, plural, refusals, seconds } from './texts.js';
 import { badIf, headsOf, isLiedTo } from './tables.js';
 import { ACTIONS, actsHere } from './acting.js';
 import { packetDetail, packetText } from './forwarding.js';
-import { hasBlank, isAsked } from './lessons.js';
+import { isAsked } from './lessons.js';
+import { plotOf } from './plot.js';
 import { choice, classes, html } from './markup.js';
 
 // ---- Events, and the card of lines ----
-export const eventOf = ({ record, said, earlier }, step, names, isOpen) => html`<li>
+export const eventOf = ({ record, earlier }, step, names, isOpen) => html`<li>
   <button ${choice(`step ${step}`, `line ${record.line}, ${describe(record, names, isOpen)}`)}><span>${record.line}</span>
     <span><span class="${badIf(record.record === 'refused')}">${describe(record, names, isOpen)}</span>
     ${earlier ? html`<br><span class="bad">${earlier}</span>` : ''}
-    ${refusals(record).map(text => html`<br><span class="bad">${text}</span>`)}${said.map(text => html`<br>${text}`)}
+    ${refusals(record).map(text => html`<br><span class="bad">${text}</span>`)}
   </span></button></li>`;
 
 export const cardOf = () => LINES.map(([form, meaning]) => html`<dt><code>${form}</code></dt><dd>${meaning}</dd>`);
@@ -32,16 +33,27 @@ const withNames = (trace, { record, prints }) => prints.map(line => line.split('
   /^\d+:?$/.test(word) && IS_ROUTER[record]?.(at, words) ? word.replace(/\d+/, router => nameOf(trace, Number(router))) : word).join(' '));
 
 export function detailOf(state) {
-  const { trace, step, chosen, wiring } = state, { record, said, earlier } = trace.steps[step] ?? {};
+  const { trace, step, chosen, wiring } = state, { record, earlier } = trace.steps[step] ?? {};
   const thing = wiring && named(chosen, trace), badness = badIf(record?.record === 'refused');
   if (!record) return html`<p class="faint">Nothing has happened.</p>`;
   const at = record.event ? ` at ${seconds(record.now)}` : '';
   return html`<p class="${badness} happened"><b>Line ${record.line}: ${describe(record, trace.names, openAt(state, step))}${hintOf(record)}</b>${at}</p>
     ${earlier ? html`<p class="bad">Time goes back: ${earlier}.</p>` : ''}
-    ${said.map(text => html`<p>After it, ${text}.</p>`)}${refusals(record).map(text => html`<p class="bad">${text}</p>`)}
+    ${refusals(record).map(text => html`<p class="bad">${text}</p>`)}
     ${record.prints ? html`<pre>${withNames(trace, record).join('\n')}</pre>` : ''}
     ${thing ? html`<div id="thing">${(DETAILS[thing.kind] ?? ACTIONS[thing.kind])(state, thing)}</div>`
-    : html`${offersText(state)}${updatesText(state)}${actsHere(state)}`}`;
+    : html`${questionsText(state)}${offersText(state)}${updatesText(state)}${actsHere(state)}`}`;
+}
+
+// Why what is sent or comes at a step was asked, or what it answers.
+function questionsText(view) {
+  const { trace, step } = view, { record: { router, event, asks, sent } } = trace.steps[step], { datagram } = event ?? {};
+  const name = number => nameOf(trace, number), come = trace.datagrams[datagram], isOpen = who => prefix => isAsked(view, who, prefix);
+  const link = number => html`<button class="link" data-choose="datagram ${number}">${number}</button>`;
+  if (asks) return html`<p class="question">Why ${name(router)} asks: ${whyAsks(asks, isOpen(router))}. No link came up.</p>`;
+  if (come?.asks) return html`<p class="question">Datagram ${link(datagram)} is a question of ${name(come.router)}: ${
+    whyAsks(come.asks, isOpen(come.router))}.${sent.length > 0 ? ` ${name(router)} answers with its table.` : ''}</p>`;
+  return come && come.answers !== null ? html`<p class="question">It is the answer to ${name(router)}'s datagram ${link(come.answers)}.</p>` : '';
 }
 
 function offersText(view) {
@@ -49,7 +61,7 @@ function offersText(view) {
   const offers = event ? offersOf(trace, step) : [];
   const rowOfOffer = ({ prefix, told, cost, offered, before = 'none', after = 'none', outcome }) => html`<tr>
     <td>${prefix}</td><td>${told}</td>
-    <td>${told} + ${cost}${told + cost > offered ? ', at most 16,' : ''} = ${offered}</td>
+    <td>${told >= UNREACHABLE ? 'none: unreachable' : told + cost > offered ? `${told} + ${cost} is past 15: ${offered}` : `${told} + ${cost} = ${offered}`}</td>
     <td>${isAsked(view, router, prefix, step - 1) ? '?' : before}</td>${isAsked(view, router, prefix) ? html`<td>?</td><td>?</td>`
     : html`<td>${after}</td><td>${outcome}</td>`}</tr>`;
   return offers.length === 0 ? '' : html`<table id="offers"><caption>How ${nameOf(trace, router)} processes it</caption>
@@ -60,7 +72,7 @@ function offersText(view) {
 // What a step sent: each prefix on each link, with the poison.
 const MOST_ENTRIES = 8;
 function updatesText(view) {
-  const { trace, step } = view, { record: { router, update }, routers } = trace.steps[step], updates = updatesOf(trace, step);
+  const { trace, step } = view, { record: { router, update, asks }, routers } = trace.steps[step], updates = updatesOf(trace, step);
   if (update === 'held') {
     return html`<p>It has changes to advertise, but its triggered updates are delayed until
       ${seconds(routers[router].timers.hold)}.</p>`;
@@ -68,7 +80,7 @@ function updatesText(view) {
   const entryText = ({ prefix, metric, isPoisoned }) => html`<span class="${classes(isPoisoned && 'poisoned')}">${prefix} at
     ${isAsked(view, router, prefix) && !isPoisoned ? '?' : metric}${isPoisoned ? ' (poisoned reverse)' : ''}</span>`;
   const listOf = ({ isRequest, entries }) => {
-    if (isRequest) return 'a Request for all routes';
+    if (isRequest) return `a Request for all routes${asks ? `: ${whyAsks(asks, prefix => isAsked(view, router, prefix))}` : ''}`;
     const more = entries.length > MOST_ENTRIES ? `, and ${entries.length - MOST_ENTRIES} more` : '';
     return html`${entries.slice(0, MOST_ENTRIES).map((entry, index) => html`${index > 0 ? ', ' : ''}${entryText(entry)}`)}${more}`;
   };
@@ -84,14 +96,14 @@ function routeDetail(state, { router, prefix }) {
   const { trace, step } = state, now = trace.steps[step], entry = now.routers[router].table.get(prefix);
   const cost = leastCosts(trace, now, prefix)[router], name = nameOf(trace, router);
   const least = html`<p>${cost < UNREACHABLE ? `The shortest path, as the network is now, costs ${cost}.`
-    : 'No path leads to a router with that prefix now.'}</p>${hasBlank(state, router, prefix) ? '' : plotOf(state, router, prefix)}`;
-  const packet = html`<h3 class="of-packet">Where a packet goes</h3>${packetText(trace, now, router, prefix)}
+    : 'No path leads to a router with that prefix now.'}</p>`, plot = plotOf(state, router, prefix);
+  const packet = state.checks?.some(({ isBlank }) => isBlank) ? '' : html`<h3 class="of-packet">Where a packet goes</h3>${packetText(trace, now, router, prefix)}
     <p><button data-choose="packet ${router} ${prefix}" data-key="g">hop by hop, or to another address</button></p>`;
-  if (!entry) return html`<h2>${name} has no route to ${prefix}.</h2>${packet}${least}`;
+  if (!entry) return html`<h2>${name} has no route to ${prefix}.</h2>${plot}${packet}${least}`;
   const { metric } = entry.route, came = html`<h3 class="of-walk">Where this number came from</h3>`;
   return metric < UNREACHABLE
-    ? html`<h2>Why has ${name} metric ${metric} for ${prefix}?</h2>${came}${walkText(trace, step, router, entry)}${packet}${least}`
-    : html`<h2>Why is ${prefix} unreachable for ${name}?</h2>${came}${whyUnreachable(trace, entry)}${packet}${least}`;
+    ? html`<h2>Why has ${name} metric ${metric} for ${prefix}?</h2>${came}${walkText(trace, step, router, entry)}${plot}${packet}${least}`
+    : html`<h2>Why is ${prefix} unreachable for ${name}?</h2>${came}${whyUnreachable(trace, entry)}${plot}${packet}${least}`;
 }
 
 function walkText(trace, step, router, entry) {
@@ -145,24 +157,6 @@ function whyUnreachable(trace, { cause, route }) {
   }[event?.kind] ?? 'this event made it so';
   return html`<p>Since ${stepLink(trace, cause)}: ${why}. It is advertised at 16 (route poisoning) until it is deleted, at
     ${seconds(route.until)}.</p>`;
-}
-
-// The metric of a route after each step, with its least cost: a staircase.
-const PLOT = { width: 420, height: 96, left: 24 };
-function plotOf({ trace, step }, router, prefix) {
-  const runs = metricRuns(trace, router, prefix), last = Math.max(1, trace.steps.length - 1);
-  const { width, height, left } = PLOT, x = at => left + (width - left - 4) * at / last;
-  const y = metric => height - 6 - (height - 14) * metric / UNREACHABLE;
-  const stairs = member => runs.map((run, index) => {
-    const joins = index > 0 && runs[index - 1][member] !== undefined, end = x(runs[index + 1]?.step ?? last);
-    return run[member] === undefined ? '' : `${joins ? 'V' : `M${x(run.step)} `}${y(run[member])}H${end}`;
-  }).join('');
-  const rules = [1, 8, 16].map(metric =>
-    html`<path class="rule" d="M${left} ${y(metric)}H${width}"/><text x="12" y="${y(metric)}">${metric}</text>`);
-  return html`<figure><svg id="plot" role="img" aria-label="metric and shortest path at each step"
-    viewBox="0 0 ${width} ${height}">${rules}<path class="least" d="${stairs('least')}"/>
-    <path class="held" d="${stairs('metric')}"/><path class="here" d="M${x(step)} 2V${height - 4}"/></svg>
-    <figcaption>Its metric over the steps, and (dashed) the cost of the shortest path.</figcaption></figure>`;
 }
 
 const DETAILS = { route: routeDetail, packet: packetDetail };

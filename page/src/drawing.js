@@ -15,10 +15,11 @@ import { choice, classes, html } from './markup.js';
 function chosenWalk(view) {
   const { trace, step, chosen } = view;
   const { kind, router, prefix, target = prefix } = named(chosen, trace) ?? {}, state = trace.steps[step];
+  const isOpen = view.checks?.some(({ isBlank }) => isBlank);
   const isHidden = kind === 'route' && isAsked(view, router, prefix);
   const entry = kind === 'route' && !isHidden ? state.routers[router].table.get(prefix) : null;
-  const packet = target && !isHidden ? pathOf(trace, state, router, target) : { way: [], hops: [], end: 'delivered', lost: null };
-  if (kind === 'packet' && view.isFromAll) packet.all = waysOf(trace, state, target);
+  const packet = target && !isHidden && !isOpen ? pathOf(trace, state, router, target) : { way: [], hops: [], end: 'delivered', lost: null };
+  if (kind === 'packet' && view.isFromAll && !isOpen) packet.all = waysOf(trace, state, target);
   return { ...entry ? walkOf(trace, router, entry) : { hops: [], owner: null }, packet };
 }
 
@@ -61,7 +62,7 @@ function drawCost({ trace, fit, plates, costs, routers, chosen }, wire, { router
   const isPlain = trace.links.get(link).every(end => routers[end.router].interfaces[end.iface].cost === 1);
   if (!isPlain) costs.push(boxAt({ x, y }, size, size));
   return html`<g class="${classes('cost', chosen === text && 'chosen')}" ${choice(text, label, chosen)}>
-    <circle class="target" cx="${x}" cy="${y}" r="${fit.roomy ? 12 : 6}"/>${isPlain ? ''
+    <circle class="target" cx="${x}" cy="${y}" r="${fit.roomy ? 12 : 6}"/>${isPlain && chosen !== text ? ''
     : html`<text x="${x}" y="${y}" font-size="${size}">${cost}</text>`}<title>${label}, ${addr}, link ${link}</title></g>`;
 }
 

@@ -39,8 +39,10 @@ function setDraft(text, name = nameFor(text), isShared = false) {
   showDraft({ text, name, isShared });
 }
 
-// A script that is no example any more has a name of its own.
+// A script that is no example any more has a name of its own. Another script has its own places.
+const bareName = name => name.replace(/^own-/, '').replace(/-\d+\.lab$/, '.lab');
 function showDraft({ text, name, isShared = false }) {
+  if (bareName(name) !== bareName(editor.name)) view.isOther = true;
   const area = byId('script'), before = area.value, example = SCRIPTS.get(name)?.text === text;
   Object.assign(editor, { text, name: !example && SCRIPTS.has(name) ? freeName(`own-${name}`, text) : name, isShared });
   if (before !== text) {
@@ -136,7 +138,8 @@ const redo = () => travel(editor.future, editor.past);
 // Another script takes the place of the draft, which can be gone back to.
 function openScript(text, name, isShared = false) {
   const lines = plainLines(text);
-  Object.assign(view, { chosen: null, room: 1 });
+  Object.assign(view, { chosen: null, room: 1, tries: new Map() });
+  byId('welcome').hidden = true;
   setDraft(lines, isShared || SCRIPTS.has(name) ? name : freeName(name, lines), isShared);
   return runDraft(() => 0);
 }

@@ -1,5 +1,5 @@
 // What is told of where packets go, beside where a metric came from.
-import { nameOf } from './trace.js';
+import { nameOf, prefixInView } from './trace.js';
 import { wayText } from './walks.js';
 import { pathOf, waysOf } from './packets.js';
 import { isAsked } from './lessons.js';
@@ -33,7 +33,8 @@ function lossText(trace, { out }, { lost, hops, end }) {
 
 // ---- A packet that was asked for ----
 export function packetDetail(state, { router, target }) {
-  const { trace, step } = state, now = trace.steps[step], name = number => nameOf(trace, number);
+  const { trace, step, checks = [] } = state, now = trace.steps[step], name = number => nameOf(trace, number);
+  if (checks.some(({ isBlank }) => isBlank)) return html`<h2>Blanks ask for metrics. Fill them in, and the page says where packets go.</h2>`;
   const { hops } = pathOf(trace, now, router, target);
   const hopRow = ({ route: { prefix, metric, gateway }, from, to }, index) => html`<tr><td>${index + 1}</td>
     <td>${name(from.router)} → ${name(to.router)}</td><td>${prefix}</td>
@@ -43,6 +44,28 @@ export function packetDetail(state, { router, target }) {
     ${headsOf(['hop', 'path', 'route to', 'metric', 'next hop', 'link'])}<tbody>${hops.map(hopRow)}</tbody></table>`}
     ${packetForm(state, target)}${choices(html`<button data-act="fromAll"
       aria-pressed="${Boolean(state.isFromAll)}">from every router</button> <button data-act="why" data-key="w">why this metric?</button>`)}${state.isFromAll ? fatesText(trace, now, target) : ''}`;
+}
+
+// What is to be said first of a step: what becomes of packets for the prefix in view, from each router that is up, and when a
+// route changed last. It is said of the paths and the tables of the trace; while a blank is open nothing is.
+const STILL = 30_000;
+export function verdictOf(state) {
+  const { trace, step, checks = [] } = state, now = trace.steps[step], target = prefixInView(state);
+  if (!target || !now.routers || checks.some(({ isBlank }) => isBlank)) return html``;
+  const named = routers => routers.map(router => nameOf(trace, router)).join(', ');
+  const found = new Map();
+  for (const { router, fate } of waysOf(trace, now, target)) {
+    if (now.out.has(`router ${router}`)) continue;
+    const { lost, way, loops } = pathOf(trace, now, router, target), [kind, number] = lost?.thing.split(' ') ?? [];
+    const ring = [...new Set(way.slice(loops))].sort((a, b) => a - b), at = kind === 'router' ? nameOf(trace, Number(number)) : `link ${number}, which is cut`;
+    const told = { lose: `are lost at ${at}`, circle: `circle in a loop of ${named(ring)}`, drop: 'are dropped: there is no route', arrive: '' }[fate];
+    found.set(told, [...found.get(told) ?? [], router]);
+  }
+  const sick = [...found].filter(([told]) => told).map(([told, routers]) => [told, named(routers)]), last = trace.steps.slice(0, step + 1).findLast(({ record }) => record.changes?.length > 0);
+  const ago = last ? now.now - last.now : null, changes = ago === null ? '' : ago < STILL ? 'Routes still change.' : `No route has changed for ${Math.floor(ago / 1000)} s.`;
+  const fate = sick.length === 0 ? html`<b class="good">Packets for ${target} arrive from each router.</b>`
+    : html`<b class="bad">Packets for ${target} ${sick.map(([told, routers], index) => html`${index > 0 ? '; ' : ''}from ${routers} ${told}`)}.</b>`;
+  return html`${fate} ${changes}`;
 }
 
 // What becomes of packets from every router.

@@ -1,8 +1,8 @@
 // What is given away: files, films and links.
 
-function download(ending, text, type) {
+function download(ending, contents, type) {
   const link = document.createElement('a'), name = editor.name.replace(/(\.lab)?$/, ending);
-  Object.assign(link, { href: URL.createObjectURL(new Blob([text], { type })), download: name });
+  Object.assign(link, { href: URL.createObjectURL(new Blob([contents], { type })), download: name });
   link.click();
   setTimeout(() => URL.revokeObjectURL(link.href), 1000);
 }

@@ -6,7 +6,16 @@ function choose(text) {
   const isNew = text !== view.chosen && named(text, view.trace);
   Object.assign(view, { chosen: isNew ? text : null, typed: {} });
   endSpan();
+  renderChosen();
+}
+
+// On a narrow window what is told of a router covers the foot of the window: the router is scrolled above it.
+function renderChosen() {
   render();
+  const { router } = named(view.chosen, view.trace) ?? {}, circle = byId('drawing').querySelector(`.router[data-router="${router}"] circle`);
+  if (!circle || matchMedia(SIDE_BY_SIDE).matches || document.body.classList.contains('large')) return;
+  const below = circle.getBoundingClientRect().bottom + 12 - byId('detail').getBoundingClientRect().top;
+  if (below > 0) window.scrollBy(0, below);
 }
 
 // ---- Clicks ----
@@ -15,6 +24,7 @@ function onClick({ target }) {
   const { choose: text = '', lines, act } = clicked?.dataset ?? {}, [kind, number] = text.split(' ');
   const values = lines || MAKES[act] ? fields(clicked) : {};
   if (view.dragged || !values) return;
+  if (clicked || !target.closest('#acts details')) document.querySelector('#acts details[open]')?.removeAttribute('open');
   if (!target.closest('#editing')) hushToast();
   if (act) (MAKES[act] ?? ACTS[act])(MAKES[act] ? values : clicked);
   else if (lines) putIn(lines, values);
@@ -36,7 +46,8 @@ const press = act => () => buttonOf(act).click();
 const LETTERS = {
   r: press('round'), f: press('rounds'), u: press('untilChange'), p: press('present'), q: press('quiz'), m: press('matrix'),
   '+': press('zoomIn'), '-': press('zoomOut'), 0: press('zoomWhole'), '/': () => byId('filter').focus(),
-  n: press('lessonAfter'), b: press('lessonBefore'), '?': press('help'),
+  k: () => toBranch({ dataset: {} }), j: () => compareBranch({ dataset: {} }),
+  a: () => showAsking(ASKING_WAYS[(ASKING_WAYS.indexOf(view.way) + 1) % ASKING_WAYS.length]), n: press('lessonAfter'), b: press('lessonBefore'), '?': press('help'),
   c: target => ofChosen('c', target), l: target => ofChosen('l', target), w: target => ofChosen('w', target),
   g: target => ofChosen('g', target), Delete: target => ofChosen('Delete', target),
   d: target => ofChosen('d', target, press('hear')),
@@ -50,9 +61,12 @@ function ofChosen(letter, target, otherwise = () => say(WANTED[letter], true)) {
   const text = target.closest('#drawing [data-choose]')?.dataset.choose, [kind, number] = (text ?? view.chosen ?? '').split(' ');
   if (/[gw]/.test(letter) && kind === 'router') {
     view.chosen = `${letter === 'w' ? 'route' : 'packet'} ${number} ${prefixInView(view)}`;
-    return render();
+    return renderChosen();
   }
   if (text && text !== view.chosen) choose(text);
+  if (letter === 'w' && kind === 'route') return undefined;
+  const { event } = current()?.record ?? {};
+  if (letter === 'l' && kind !== 'datagram' && event?.kind === 'deliver') return lose({ dataset: { number: event.datagram } });
   const button = byId('detail').querySelector(`[data-key=${letter}]`);
   return button ? button.click() : otherwise();
 }
@@ -66,6 +80,8 @@ function onKey(event) {
     return key.toLowerCase() === 'y' || event.shiftKey ? redo() : undo();
   }
   if (event.altKey || isCommand || document.querySelector('dialog[open]')) return;
+  const more = document.querySelector('#acts details[open]');
+  if (key === 'Escape' && more) return more.removeAttribute('open');
   if (key === 'Escape') return isRunning() ? stopRun() : view.span ? finishSpan() : choose(null);
   if (key === 'Enter' && isAnswered(target)) return event.preventDefault();
   const presses = ['Enter', ' '].includes(key), thing = target.closest('g[data-choose]');

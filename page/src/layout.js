@@ -14,6 +14,18 @@ export function wiringOf(trace) {
   return { wires, hubs, count, size: count + hubs.length, wireOf };
 }
 
+// How many links two networks do not share.
+export function linksApart(one, other) {
+  const [mine, theirs] = [one, other].map(({ links }) => [...links.values()].map(ends => ends.map(({ router }) => router).join()));
+  for (const link of mine.slice()) {
+    const at = theirs.indexOf(link);
+    if (at < 0) continue;
+    theirs.splice(at, 1);
+    mine.splice(mine.indexOf(link), 1);
+  }
+  return mine.length + theirs.length;
+}
+
 // Places for the spots, a wire being about one unit long: as far apart as they are along wires, turned so that most
 // wires are level or upright, and spot 0 is to the left and the top. Lines and grids are seen as such; a ring is a regular
 // polygon, a star a ring around its middle, and a long line goes forth and back in rows.

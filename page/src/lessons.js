@@ -4,10 +4,10 @@ import { namesOf } from './building.js';
 import { UNREACHABLE, prefixKey } from './datagrams.js';
 import { isSameTarget } from './packets.js';
 
-// A remark without its drawing: what stands behind an empty remark line and is indented, or has a link in it. A line of
-// places, which the page writes, and one that was set aside are no remarks.
+// A remark without its drawing: what stands behind an empty remark line and is indented, or has a link in it. What
+// the page writes, places and branches, and a line that was set aside are no remarks.
 const DRAWN = /^\s|--|^[\s|/\\+-]+$/;
-const isOfPage = line => /^#(places|off) /.test(line);
+const isOfPage = line => /^#(?:(?:places|off|fork|branch) |\|)/.test(line);
 function proseOf(block) {
   let isBehindGap = false;
   const kept = block.filter(text => {
@@ -17,19 +17,28 @@ function proseOf(block) {
   return kept.join(' ');
 }
 
-// The remark that was last before a line, for each line by its number; and behind them that at the script's end.
+// The remark that was last before a line, for each line by its number; and behind them that at the script's end. What a script
+// asks first stays while its network is written down: a remark before a router or an interface is of that line.
 export function captionsOf(script) {
   const captions = [''];
   let caption = '', block = [];
+  let isBuilt = false;
   for (const line of [...script.split('\n'), 'end']) {
-    const isRemark = line.startsWith('#');
+    const isRemark = line.startsWith('#'), isOfNetwork = !isBuilt && caption && /^(router|iface|own)\b/.test(line);
+    isBuilt ||= line.startsWith('cold');
     if (isRemark && !isOfPage(line)) block.push(line.replace(/^#+ ?/, ''));
     else if (!isRemark && line !== '' && block.length > 0) {
-      [caption, block] = [proseOf(block) || caption, []];
+      [caption, block] = [!isOfNetwork && proseOf(block) || caption, []];
     }
     captions.push(caption);
   }
   return captions;
+}
+
+// A caption in two: what it says, and the answer that it ends with.
+export function withAnswerApart(caption) {
+  const [prose, answer = ''] = caption.split(/\s*\bAnswer: */);
+  return { prose, answer };
 }
 
 // What a caption asks, for a quiz, in which no caption tells a metric: up to its last question mark, without an answer.
@@ -83,7 +92,6 @@ export function isAsked({ checks = [], step }, router, prefix, at = step) {
   const next = checks.find(one => one.step >= at)?.step;
   return checks.filter(one => one.step === next).some(asksFor(router, prefix));
 }
-export const hasBlank = ({ checks = [] }, router, prefix) => checks.some(asksFor(router, prefix));
 
 // What a text says as a metric: a number from 1 to 16, or none; else null.
 export function metricIn(text) {

@@ -1,8 +1,11 @@
 // The datagrams of the drawing: under way, just lost, and those that come, each an envelope on its link.
 import { nameOf, onTheirWay } from './trace.js';
 import { isAskedInVain } from './losses.js';
+import { isAsked } from './lessons.js';
+import { UNREACHABLE, entriesOf } from './datagrams.js';
+import { offersOf } from './walks.js';
 import { pointBy } from './placing.js';
-import { plural } from './texts.js';
+import { whyAsks, plural } from './texts.js';
 import { choice, classes, html } from './markup.js';
 
 // So many datagrams at most are seen to fly at once.
@@ -12,6 +15,24 @@ export function marksOf(scene) {
   const { wiring: { wires } } = scene;
   const piles = wires.flatMap(wire => wire.ends.flatMap(end => [drawWaiting(scene, wire, end), drawLost(scene, wire, end)]));
   return [...piles, html`${arrivalsOf(scene).map(one => drawArrival(scene, one))}`];
+}
+
+// What a datagram is, in words: a question with its reason, or the answer to one.
+export function questionText(view, { asks, answers, router }) {
+  const name = nameOf(view.trace, router), isOpen = prefix => isAsked(view, router, prefix);
+  if (asks) return `a Request: ${view.isQuiz ? `${name} asks its neighbors` : whyAsks(asks, isOpen).replace('it', name)}`;
+  return answers === null ? '' : `the answer to datagram ${answers}`;
+}
+const askedIn = (scene, datagram) => { const text = questionText(scene, datagram); return text && `, ${text}`; };
+
+// The metric that an envelope advertises for the prefix in view, and how a router adds to it where it comes; while a blank is
+// open, or in a quiz, neither is told.
+const isHushed = ({ isQuiz, checks = [] }) => isQuiz || checks.some(({ isBlank }) => isBlank);
+const metricTold = (scene, { bytes }) => !scene.fit.roomy || isHushed(scene) || !bytes.startsWith('02') ? undefined
+  : entriesOf(bytes).find(({ prefix }) => prefix === scene.prefix)?.metric;
+function sumAt(scene) {
+  const offer = isHushed(scene) ? undefined : offersOf(scene.trace, scene.step).find(({ prefix }) => prefix === scene.prefix);
+  return !offer || offer.told >= UNREACHABLE ? '' : `${offer.told} + ${offer.cost} ${offer.told + offer.cost > offer.offered ? '→' : '='} ${offer.offered}`;
 }
 
 const isSince = ({ since, step }, at) => at > since && at <= step;
@@ -24,7 +45,8 @@ function drawWaiting(scene, wire, end) {
   const [newest, ...others] = onTheirWay(end, scene.step), count = others.length + 1;
   if (!newest) return html``;
   const isFresh = isSince(scene, newest.sentAt), has = others.some(({ datagram }) => scene.chosen === `datagram ${datagram}`);
-  const more = count > 1 ? `, and ${others.length} more` : '', says = `datagram ${newest.datagram} of ${nameOf(scene.trace, end.router)}${more}`;
+  const more = count > 1 ? `, and ${others.length} more` : '';
+  const says = `datagram ${newest.datagram} of ${nameOf(scene.trace, end.router)}${more}${askedIn(scene, newest)}`;
   return drawMark(scene, placeBy(scene, wire, end, 0), newest, { names: classes(isFresh && 'fresh', has && 'chosen'), count, says });
 }
 
@@ -52,18 +74,23 @@ function drawArrival(scene, { record: { router, event, fault }, isLast }) {
   const wire = wireOf.get(trace.ends[router][event.iface]), isSame = wire === wireOf.get(datagram.end);
   const flight = flying && { from: fit.places[datagram.router], by: isSame ? null : fit.places[wire.to] };
   const names = classes('fresh', fault && 'refused', flying && 'flying', !isLast && 'passing');
-  const says = `datagram ${event.datagram} of ${nameOf(trace, datagram.router)} comes to ${nameOf(trace, router)}`;
-  return drawMark(scene, pointBy.bind(null, fit, wire, router, fit.radius + 26, 0), datagram, { names, count: 1, says, flight });
+  const says = `datagram ${event.datagram} of ${nameOf(trace, datagram.router)} comes to ${nameOf(trace, router)}${askedIn(scene, datagram)}`;
+  const aside = isLast && !flying && !fault && event.kind === 'deliver' ? sumAt(scene) : '';
+  return drawMark(scene, pointBy.bind(null, fit, wire, router, fit.radius + 26, 0), datagram, { names, count: 1, says, flight, aside });
 }
 
-// An envelope, at the place for what is so wide and high; with how many it stands for, on the side that is away from the wire.
-function drawMark({ fit: { roomy }, chosen }, place, { datagram }, { names, count, says, flight }) {
+// An envelope, at the place for what is so wide and high, with the metric that it tells, or a question; with how many it stands
+// for, on the side that is away from the wire.
+function drawMark(scene, place, datagramOf, { names, count, says, flight, aside = '' }) {
+  const { fit: { roomy }, chosen } = scene, { datagram, asks } = datagramOf, told = metricTold(scene, datagramOf);
   const wide = roomy ? 18 : 8, high = roomy ? 12 : 6, text = `datagram ${datagram}`, { x, y } = place(wide, high);
-  const [left, right, top] = [x - wide / 2, x + wide / 2, y - high / 2], many = count > 1 ? `×${count}` : '';
+  const [left, right, top] = [x - wide / 2, x + wide / 2, y - high / 2], many = count > 1 ? `×${count}` : aside;
   const flap = `M${left} ${top}L${x} ${y + 1}L${right} ${top}`, isLost = names.includes('lost'), isLeft = x < place(0, 0).x - 1;
-  return html`<g class="${classes('pile', names, chosen === text && 'chosen')}" data-motion="${flight ? motionOf(flight, { x, y }) : ''}"
+  const sign = asks ? '?' : told, kind = classes(asks ? 'question' : 'told', told >= UNREACHABLE && 'unreachable');
+  const inside = sign ? html`<text class="${kind}" x="${x}" y="${y}">${sign}</text>` : html`<path class="flap" d="${flap}"/>`;
+  return html`<g class="${classes('pile', names, asks && 'asks', chosen === text && 'chosen')}" data-motion="${flight ? motionOf(flight, { x, y }) : ''}"
     ${choice(text, says, chosen)}><rect class="target" x="${x - 12}" y="${y - 12}" width="24" height="24"/>
-    <rect x="${left}" y="${top}" width="${wide}" height="${high}" rx="2"/>${roomy ? html`<path class="flap" d="${flap}"/>` : ''}
+    <rect x="${left}" y="${top}" width="${wide}" height="${high}" rx="2"/>${roomy ? inside : ''}
     ${isLost ? html`<path class="cross" d="M${x - 8} ${y - 8}L${x + 8} ${y + 8}M${x + 8} ${y - 8}L${x - 8} ${y + 8}"/>` : ''}
     ${roomy && many ? html`<text x="${isLeft ? left - 5 : right + 5}" y="${y}" class="${isLeft ? 'before' : ''}">${many}</text>` : ''}<title>${says}</title></g>`;
 }

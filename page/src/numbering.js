@@ -20,7 +20,7 @@ export const hasNumbers = script => script.split('\n').some(line => NAMING.test(
 export const namedIn = line => { const found = NAMING.exec(line); return found ? Number(found[2]) : null; };
 
 // The script as it was edited, with the numbers that its datagrams have in its trace. `old` is the script before, `was` its
-// trace, and `had` the keys of its datagrams.
+// trace, and `had` the keys of its datagrams. A line that names one that was never sent, and is refused, stays as it is.
 export function renumbered({ had, was, old }, { script, origins }, trace) {
   const keys = keysOf(trace, line => origins[line - 1]), now = new Map(keys.map((key, number) => [key, number]));
   const before = old.split('\n'), lines = script.split('\n'), numberOf = number => now.get(had[number]);
@@ -29,8 +29,9 @@ export function renumbered({ had, was, old }, { script, origins }, trace) {
     if (number !== null && NAMING.test(line) && numberOf(number) !== undefined) return line.replace(/ \d+/, ` ${numberOf(number)}`);
     if (!LEAVING.test(text) || !LEAVING.test(line)) return line;
     const [from, to] = [leftFrom(was, before, origins[at]), leftFrom(trace, lines, at + 1)];
-    if (from === null || to === null) return line;
-    const left = LEAVING.exec(text)[2].split(' ').map(count => numberOf(from + Number(count)) - to).filter(count => count >= 0);
+    const named = LEAVING.exec(text)[2].split(' ').map(count => from + Number(count));
+    if (from === null || to === null || named.some(number => had[number] === undefined)) return line;
+    const left = named.map(number => numberOf(number) - to).filter(count => count >= 0);
     return line.replace(LEAVING, (_, words) => left.length > 0 ? `${words} but ${left.join(' ')}` : words);
   }).join('\n');
 }

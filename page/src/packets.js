@@ -12,8 +12,16 @@ export function targetIn(text) {
 }
 
 // The route that packets for an address take, or for those addresses of a prefix that no longer one has: of the routes that
-// are not unreachable, that with the longest prefix.
+// are not unreachable, that with the longest prefix. A table never changes, so what it answers is kept with it.
+const answers = new WeakMap();
 export function routeFor(table, target) {
+  if (!answers.has(table)) answers.set(table, new Map());
+  const kept = answers.get(table);
+  if (!kept.has(target)) kept.set(target, longestFor(table, target));
+  return kept.get(target);
+}
+
+function longestFor(table, target) {
   const wanted = target.includes('/') ? target : `${target}/128`, lengthOf = ({ prefix }) => Number(prefix.split('/')[1]);
   return [...table.values()].map(({ route }) => route)
     .filter(route => route.metric < UNREACHABLE && covers(route.prefix, wanted))

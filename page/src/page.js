@@ -28,10 +28,14 @@ function listen() {
   Object.assign(window, { onresize: () => keepFocus(() => renderDrawing(false)), onhashchange: followAddress });
 }
 
-// `#NAME` opens the lesson or example of that name. `step=12&router=1&prefix=2001:db8::/32` shows that step, and why that
+// `#NAME` opens the lesson or example of that name. With `embed` there is the drawing alone, with its remark and the steps. `step=12&router=1&prefix=2001:db8::/32` shows that step, and why that
 // router's metric is what it is, `packet=` in place of `prefix=` where its packets go; `script=` has a script itself, which is kept as one's own once it is changed.
 const addressed = () => new URLSearchParams(location.hash.slice(1));
-const scriptAsked = asked => [[...asked.keys()][0] ?? '', `${[...asked.keys()][0]}.lab`].find(name => SCRIPTS.has(name));
+// A lesson is named with its number or without, so that a link outlives a new order.
+function scriptAsked(asked) {
+  const [name = ''] = asked.keys();
+  return [name, `${name}.lab`].find(one => SCRIPTS.has(one)) ?? [...SCRIPTS.keys()].find(one => one.replace(/^\d+-|^exercise-\d+-/, '') === `${name}.lab`);
+}
 async function followAddress() {
   const asked = addressed(), script = asked.get('script'), example = scriptAsked(asked);
   const router = asked.get('router'), packet = asked.get('packet'), step = asked.get('step') ?? '';
@@ -58,16 +62,22 @@ function writeAddress() {
   const route = kind === 'route' ? `&router=${router}&prefix=${prefix}` : kind === 'packet' ? `&router=${router}&packet=${target}` : '';
   const script = SCRIPTS.has(editor.name) ? `${encodeURIComponent(editor.name.replace(/\.lab$/, ''))}&` : '';
   clearTimeout(view.address);
-  const write = () => history.replaceState(null, '', `#${script}step=${view.step + 1}${route}`);
+  const here = `#${script}step=${view.step + 1}${route}`, isEmbedded = document.body.classList.contains('embed');
+  byId('whole').href = here;
+  const write = () => history.replaceState(null, '', `${here}${isEmbedded ? '&embed' : ''}`);
   if (view.isUp) view.address = setTimeout(write, 300);
 }
 
 // First comes what this tab showed before a reload, then the script that the address names, else the latest draft, else
-// the first script of this file. What the address names is opened over what the tab had, so that it can be gone back to.
+// counting to infinity, with a sentence on what this page is, or the script of a film. What the address names is opened over
+// what the tab had, so that it can be gone back to.
 async function comeUp() {
   const [[name, { text }]] = SCRIPTS, [draft] = drafts(), tab = keptTab(), first = scriptAsked(addressed());
   const asked = first ? { text: SCRIPTS.get(first).text, name: first } : null;
-  const shown = tab ?? asked ?? draft ?? { text, name };
+  const isFilm = byId('own').children.length > 0, start = isFilm ? { text, name } : { text: SCRIPTS.get(COUNTING).text, name: COUNTING };
+  const shown = tab ?? asked ?? draft ?? start;
+  byId('welcome').hidden = shown !== start || isFilm || addressed().has('script');
+  document.body.classList.toggle('embed', addressed().has('embed'));
   fill('card', html`${cardOf()}`);
   listen();
   Object.assign(editor, { past: shown.past ?? [], future: shown.future ?? [], known: new Map(shown.known ?? [[shown.name, shown.text]]) });

@@ -1,28 +1,37 @@
 // What the page shows: its state, and the panes, which are drawn from it.
 import { named, readTrace } from './trace.js';
-import { layOut, wiringOf } from './layout.js';
+import { layOut, linksApart, wiringOf } from './layout.js';
 import { placesOf } from './building.js';
-import { captionsOf, checksOf, expectationsOf, questionIn } from './lessons.js';
+import { branchesOf } from './branching.js';
+import { captionsOf, checksOf, expectationsOf, plainLines, questionIn, withAnswerApart } from './lessons.js';
 import { describe, hintOf, seconds } from './texts.js';
+import { askingText, hasAsking, stepBeside } from './asking.js';
 import { html } from './markup.js';
 import { drawingOf } from './drawing.js';
 import { detailOf, eventOf, openAt } from './detail.js';
 import { matrixOf, tablesOf, tallyOf } from './tables.js';
 import { quizOf } from './quiz.js';
+import { verdictOf } from './forwarding.js';
 
 const byId = id => document.getElementById(id);
 const fill = (id, markup) => { byId(id).innerHTML = markup.text; };
+// The same where it may be as before: what is read aloud is not put in again.
+function refill(id, { text }) {
+  const pane = byId(id);
+  if (pane.shown !== text) pane.innerHTML = text;
+  pane.shown = text;
+}
 // The scripts of this file, its own before the lessons and the examples.
 const SCRIPTS = new Map([...document.querySelectorAll('#own > div, #scripts > div')].map(script =>
-  [script.dataset.name, { text: script.textContent, kind: script.dataset.kind ?? 'of this file', isLesson: 'lesson' in script.dataset }]));
+  [script.dataset.name, { text: plainLines(script.textContent), kind: script.dataset.kind ?? 'of this file', isLesson: 'lesson' in script.dataset }]));
 
 // What is shown: a script that was run with its trace, a step of it, that since which changes are marked, what was chosen,
 // and what was typed into fields. The script that was run last, `ran`, may have no network; then `stale` is true, and the
-// last network shows.
+// last network shows. Of a script with a line `asking` both runs can be seen, each alone or beside each other, by `way`.
 const view = {
   script: '', trace: readTrace(''), step: 0, since: -1, chosen: null, typed: {}, ran: null, refused: null, stale: false,
-  wiring: null, spots: [], shifts: [], captions: [''], checks: [], eventsFrom: null, place: 'end',
-  isLarge: false, isQuiz: false, guesses: new Map(), isMatrix: null, filter: '', room: 1, isFromAll: false,
+  wiring: null, spots: [], shifts: [], captions: [''], checks: [], eventsFrom: null, place: 'branch',
+  asking: null, way: 'with', isLarge: false, isQuiz: false, guesses: new Map(), tries: new Map(), isMatrix: null, filter: '', room: 1, isFromAll: false,
 };
 const current = () => view.trace.steps[view.step];
 
@@ -30,14 +39,16 @@ const current = () => view.trace.steps[view.step];
 // Of what was `added` all is played, from the step before it.
 function showRun(script, text, stepOf = () => view.step, isAdded = false) {
   const trace = readTrace(text, script), last = trace.steps.at(-1)?.record, hasNetwork = trace.ends.length > 0;
-  const refused = last?.record === 'refused' ? last : null, before = isAdded ? stepAsBefore(view.trace, trace) : -1;
+  const refused = last?.record === 'refused' ? last : null, before = isAdded ? stepAsBefore(view.trace, trace) : -1, isBeside = view.way === 'beside';
   Object.assign(view, { ran: script, refused, stale: !hasNetwork && view.wiring !== null });
-  if (refused) say(`Line ${refused.line}: ${describe(refused, trace.names)}${hintOf(refused)}`, true);
+  const rest = refused?.why.startsWith('expected') ? '. Nothing behind it was run.' : '';
+  if (refused) say(`Line ${refused.line}: ${describe(refused, trace.names)}${hintOf(refused)}${rest}`, true);
   else say(hasNetwork ? '' : 'no network yet: the script has no line "cold NOW"');
   if (!view.stale) showTrace(script, trace);
   const step = stepOf(view.trace);
   if (isAdded && before >= 0 && step > before) playSpan(before, step);
   else go(step);
+  if (isBeside && view.asking) showAsking('beside');
 }
 
 // The last step up to which two traces are the same.
@@ -48,14 +59,17 @@ function stepAsBefore({ steps: old }, { steps }) {
   return step - 1;
 }
 
-// Routers stay where they are while the network has the same links.
+// Routers stay where they are while the network has the same links, or one link more or less.
 function showTrace(script, trace) {
-  const linksOf = ({ ends }) => JSON.stringify(ends.map(own => own.map(({ link }) => link)));
-  const isSame = linksOf(trace) === linksOf(view.trace);
+  const had = view.trace, wired = view.wiring;
   const checks = checksOf(trace, expectationsOf(script));
   Object.assign(view, { script, trace, checks, captions: captionsOf(script), shifts: placesOf(script), eventsFrom: null });
   view.wiring = trace.ends.length > 0 ? wiringOf(trace) : null;
-  if (!isSame) view.spots = view.wiring ? layOut(view.wiring) : [];
+  const isOffered = view.wiring && hasAsking(script) && !checks.some(({ isBlank }) => isBlank);
+  Object.assign(view, { asking: isOffered ? { trace, checks, wiring: view.wiring, other: null } : null, way: 'with' });
+  const isNear = !view.isOther && wired && view.wiring && wired.count === view.wiring.count && wired.size === view.wiring.size && linksApart(had, trace) <= 1;
+  if (!isNear) view.spots = view.wiring ? layOut(view.wiring) : [];
+  view.isOther = false;
   if (!named(view.chosen, trace)) view.chosen = null;
 }
 
@@ -98,8 +112,12 @@ function render(flying = false) {
   document.body.classList.toggle('chosen', view.chosen !== null);
   byId('where').textContent = record ? `step ${view.step + 1} of ${steps.length}, at ${seconds(now)}` : '';
   Object.assign(byId('slider'), { max: Math.max(0, steps.length - 1), value: view.step });
-  if (record) byId('slider').setAttribute('aria-valuetext', `line ${record.line}${view.isQuiz ? '' : `, ${describe(record, view.trace.names, openAt(view, view.step))}`}`);
+  const happened = record ? `line ${record.line}${view.isQuiz ? '' : `, ${describe(record, view.trace.names, openAt(view, view.step))}`}` : '';
+  byId('slider').setAttribute('aria-valuetext', happened);
+  if (!view.span && byId('happened').textContent !== happened) byId('happened').textContent = happened;
   renderCaption();
+  renderAsking();
+  renderBranches();
   keepFocus(() => {
     renderScript();
     renderEvents();
@@ -117,7 +135,28 @@ function render(flying = false) {
 function renderCaption() {
   const { record } = current() ?? {}, isLast = view.step === view.trace.steps.length - 1;
   const captions = [view.captions[record?.line], isLast && view.captions.at(-1)].filter(Boolean);
-  byId('caption').textContent = [...new Set(captions)].map(caption => view.isQuiz ? questionIn(caption) : caption).join(' ').trim();
+  const told = [...new Set(captions)].map(caption => withAnswerApart(view.isQuiz ? questionIn(caption) : caption));
+  refill('caption', html`${told.map(({ prose }) => prose && html`<span class="paragraph">${prose}</span> `)}`);
+  refill('answer', html`${told.map(({ answer }) => answer && html`<b>Answer</b> <span>${answer[0].toUpperCase()}${answer.slice(1)}</span>`)}`);
+}
+
+// What was set aside where the script goes another way.
+function renderBranches() {
+  if (view.forked === view.script) return;
+  view.forked = view.script;
+  const button = (act, number, text) => html`<button data-act="${act}" data-number="${number}">${text}</button> `;
+  refill('branches', html`${branchesOf(view.script).map(({ number, line, there }) => html`<span class="branch">Set aside in line ${line}:
+    <i>${there}</i> ${button('toBranch', number, 'go to it')}${button('compareBranch', number, 'compare')}${button('dropBranch', number, 'drop it')}</span>`)}`);
+}
+
+// Both ways of a script with a line `asking`, and what they differ in.
+function renderAsking() {
+  const { asking, way } = view, pane = byId('asking');
+  pane.hidden = !asking || view.isQuiz;
+  for (const button of pane.querySelectorAll('button')) button.setAttribute('aria-pressed', button.dataset.way === way);
+  fill('asked', asking?.other ? askingText(view) : html``);
+  byId('beside').hidden = way !== 'beside' || pane.hidden;
+  byId('drawing').dataset.run = byId('beside').hidden && way !== 'without' ? '' : `${way === 'without' ? 'without' : 'with'} asking`;
 }
 
 // What the script expects behind the step, as checked; a blank is a field.
@@ -150,15 +189,26 @@ function replace(old, text) {
 }
 
 function renderDrawing(flying) {
-  const { clientWidth, clientHeight } = byId('drawing'), svg = byId('network');
-  const pane = { width: view.room * clientWidth, height: view.room * clientHeight }, isThere = view.wiring !== null;
+  drawIn(byId('drawing'), view, flying);
+  if (!byId('beside').hidden) drawIn(byId('beside'), besideOf(view), false);
+  byId('nothing').hidden = view.wiring !== null;
+}
+
+// The same moment of the run without asking.
+function besideOf({ asking: { trace, other, others }, step, since }) {
+  const [at, from] = [step, since].map(one => stepBeside(trace, other, one));
+  return { ...view, trace: other, wiring: others, step: at, since: Math.min(from, at - 1), checks: [], chosen: view.chosen?.startsWith('datagram') ? null : view.chosen };
+}
+
+function drawIn(place, view, flying) {
+  const { clientWidth, clientHeight } = place, svg = place.querySelector('svg'), head = parseFloat(getComputedStyle(place).paddingTop);
+  const pane = { width: view.room * clientWidth, height: view.room * (clientHeight - head) }, isThere = view.wiring !== null;
   const { width, height, zoom = 1, scale = 1, roomy, parts } = isThere ? drawingOf({ ...view, flying, pane }) : { ...pane, parts: [] };
   const attributes = { width: width * zoom, height: height * zoom, viewBox: `0 0 ${width} ${height}`, class: roomy ? 'roomy' : '' };
   for (const [name, value] of Object.entries(attributes)) svg.setAttribute(name, value);
   view.pixels = zoom * scale;
-  byId('nothing').hidden = isThere;
-  patch(byId('parts'), 'g', parts);
-  for (const mark of byId('parts').querySelectorAll('[data-motion]')) mark.style = mark.dataset.motion;
+  patch(svg.querySelector(':scope > g'), 'g', parts);
+  for (const mark of svg.querySelectorAll('[data-motion]')) mark.style = mark.dataset.motion;
 }
 
 // From so many routers on the matrix stands first.
@@ -166,7 +216,8 @@ const MANY_ROUTERS = 10;
 function renderTables() {
   const isMatrix = view.isMatrix ?? view.trace.ends.length >= MANY_ROUTERS, isThere = view.wiring !== null;
   byId('matrix').textContent = isMatrix ? 'show tables' : 'show matrix';
-  fill('tally', isThere ? tallyOf(view) : html``);
+  refill('verdict', isThere && !view.isQuiz ? verdictOf(view) : html``);
+  refill('tally', isThere ? tallyOf(view) : html``);
   fill('quiz', isThere && view.isQuiz ? quizOf(view) : html``);
   patch(byId('tables'), 'div', !isThere || view.isQuiz ? [] : isMatrix ? [matrixOf(view)] : tablesOf(view));
 }

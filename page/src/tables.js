@@ -4,7 +4,7 @@ import { leastCosts, tallyAll, walkOf } from './walks.js';
 import { UNREACHABLE, prefixKey } from './datagrams.js';
 import { filterOf } from './filtering.js';
 import { isAsked } from './lessons.js';
-import { plural } from './texts.js';
+import { plural, seconds } from './texts.js';
 import { choice, classes, html } from './markup.js';
 
 export const badIf = isBad => isBad ? 'bad' : '';
@@ -16,10 +16,12 @@ const PROMISES_NOTHING = ' After a forged update, or with a router that is not R
 export const isLiedTo = (trace, step) =>
   trace.steps.slice(0, step + 1).some(({ record }) => record.event?.kind === 'liar' || record.record === 'horizon');
 
-export function tallyOf({ trace, step }) {
+export function tallyOf({ trace, step, checks = [] }) {
+  if (checks.some(({ isBlank }) => isBlank)) return html``;
   const { held, backed, wanted, reached } = tallyAll(trace, trace.steps[step]);
   const shortest = wanted > 0 ? html` <b>${reached} of ${plural(wanted, 'route')}</b>
     ${reached === 1 ? 'is a shortest path' : 'are shortest paths'}.` : '';
+  if (held === 0) return html`No router has a route that it can use.${isLiedTo(trace, step) ? PROMISES_NOTHING : ''}`;
   return html`<b class="${badIf(backed < held)}">${backed} of ${plural(held, 'metric')}</b> ${backed === 1 ? 'belongs' : 'belong'}
     to a path that is or was there.${shortest}${isLiedTo(trace, step) ? PROMISES_NOTHING : ''}`;
 }
@@ -77,7 +79,7 @@ function rowOf({ trace, state, before, mine, clock, asked }, router, entry) {
       : html`<b class="bad" title="no path has this cost">!</b>`}</td>
     <td class="faint">${isOpen ? '?' : least < UNREACHABLE ? least : 'none'}</td>
     <td title="${exactly(gateway)}">${gateway ? wayOf(trace, gateway) : 'own'}</td>
-    <td>${tag}</td><td class="${dying ? '' : 'faint'}">${gone ? '' : untilText(until, dying, clock)}</td></tr>`;
+    <td>${tag}</td><td class="${dying ? '' : 'faint'}">${gone || isOpen ? '' : untilText(until, dying, clock)}</td></tr>`;
 }
 
 // When a route expires, or at infinity is deleted: how long it takes, or where that is too much to keep up, the second. Past that
@@ -110,6 +112,20 @@ const printedRoute = (router, { prefix, metric, tag, gateway }) =>
   `${router} ${prefix} metric ${metric} tag ${tag} ${exactly(gateway)}\n`;
 export const printed = ({ routers }) => routers.flatMap(({ table }, router) =>
   inOrder([...table.values()]).map(({ route }) => printedRoute(router, route))).join('');
+
+// What two runs end with, where it is not the same.
+export function comparisonOf(one, other, here, there) {
+  const ends = [one, other].map(({ steps }) => steps.at(-1)), held = ends.map(({ routers }) => routers.map(({ table }) => table));
+  const rows = held[0].flatMap((_, router) => {
+    const prefixes = [...new Set(held.flatMap(tables => [...tables[router]?.keys() ?? []]))];
+    return prefixes.map(prefix => [router, prefix, ...held.map(tables => tables[router]?.get(prefix)?.route)]);
+  }).filter(([, , mine, theirs]) => mine?.metric !== theirs?.metric || exactly(mine?.gateway) !== exactly(theirs?.gateway));
+  const told = (trace, route) => !route ? 'no route' : `${route.metric}, ${route.gateway ? wayOf(trace, route.gateway) : 'own'}`;
+  return html`<table><thead><tr><th>router</th><th>prefix</th><th>shown: ${here}; ends at ${seconds(ends[0].now)}</th>
+    <th>branch: ${there}; ends at ${seconds(ends[1].now)}</th></tr></thead><tbody>${rows.map(([router, prefix, mine, theirs]) =>
+    html`<tr><td>${nameOf(one, router)}</td><td>${prefix}</td><td>${told(one, mine)}</td><td>${told(other, theirs)}</td></tr>`)}</tbody></table>
+    ${rows.length === 0 ? html`<p>Both end with the same routes.</p>` : ''}`;
+}
 
 // ---- The matrix ----
 // All metrics, a row for each router and a column for each prefix.

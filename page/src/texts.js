@@ -64,6 +64,7 @@ export const LINES = [
   ['ask R I NOW SOURCE PORT PREFIX', 'an outside host asks for that prefix, or for all'],
   ['liar R I NOW SOURCE PREFIX METRIC', 'a forged Response that R takes for one of its link; after it nothing is guaranteed'],
   ['horizon R none', 'router R advertises without poisoned reverse (none), or with split horizon alone (split), until poison: no RIPng'],
+  ['asking [off]', 'from now on routers that have lost a route ask their neighbors, or no longer'],
   ['print [R [PREFIX]]', 'routes are printed'],
   ['sent [N]', 'datagrams are printed'],
   ['path R ADDR', 'where packets for ADDR go from router R is printed; expect path R ADDR arrives, or loops or lost, checks it'],
@@ -86,30 +87,33 @@ const HAPPENED = {
     sender ? `what ${name(sender.router)} sends, which is not RIPng` : `a forged Response of ${source}`}`,
   tick: (event, name, { update }) => `: ${UPDATES[update] ?? 'its timer, nothing is due'}`,
   restart: () => ' restarts',
-  shutdown: () => ' shuts down',
   cost: event => ` has cost ${event.cost} at interface ${event.iface}`,
   gain: event => ` originates ${event.prefix} with tag ${event.tag}`,
   drop: event => ` withdraws ${event.prefix}`,
   shutdown: () => ' shuts down',
   link_down: event => `: the link of interface ${event.iface} is down`,
-  link_up: event => `: the link of interface ${event.iface} is up`,
+  link_up: (event, name, { asks }) => asks ? ` asks on interface ${event.iface}` : `: the link of interface ${event.iface} is up`,
 };
+// Why a router asks, as `--explain` says it; which route it is, is left out where a blank asks for it.
+export const whyAsks = ({ lost, lost_at }, isOpen = () => false) => `it lost ${isOpen(lost) ? 'a route' : `the route to ${lost}`} at ${seconds(lost_at)}`;
 // What it means that a route leaves the forwarding table, by the event.
 const LEAVES = { tick: 'times out', deliver: 'is withdrawn by its next hop', drop: 'is no longer originated' };
 
 // What happened at a record, in words; `names` has the names of routers, by their numbers, and `isOpen` says of which prefix
 // of its router the metric is not told.
 export function describe(record, names = new Map(), isOpen = () => false) {
-  const { record: kind, why, routers, router, event, sent, changes, prints, datagram, rounds, phases, last } = record;
+  const { record: kind, why, routers, router, event, sent, changes, prints, datagram, rounds, phases, last, thing, does } = record;
   const name = number => names.get(number) ?? `R${number}`, asked = () => plural(sent.length, 'Request');
   if (kind === 'start') return `${plural(routers.length, 'router')} start${routers.length === 1 ? 's' : ''}, ${asked()} sent`;
   if (kind === 'refused' && why.startsWith('expected')) return why.replace(/^expected (\d+)/, (_, number) => `expected ${name(Number(number))}`);
   if (kind === 'refused') return `refused: ${reasonIn(why)}`;
+  if (kind === 'outage') return thing?.startsWith('router ') ? `${name(Number(thing.slice(7)))} ${does}` : `${thing ?? ''} ${does}`.trim();
   if (kind === 'lost') return `datagram ${datagram} is lost`;
-  const ended = last === null ? 'no table changed' : `last change in ${last}`;
+  const ended = last === null ? 'no table changed' : `the last change in ${kind === 'rounds' ? 'round' : 'phase'} ${last + 1}`;
   if (kind === 'rounds') return `${plural(rounds, 'round')}, ${ended}`;
   if (kind === 'phases') return `${plural(phases, 'phase')}, ${ended}`;
   if (kind === 'horizon') return prints[0].replace(/^\d+/, number => `R${number}`);
+  if (kind === 'asks') return `${name(router)} asks its neighbors: ${whyAsks(record, isOpen)}`;
   if (kind !== 'event') return `${kind}: ${plural(prints.length, 'line')}`;
   const becomes = ({ change, prefix, metric }) => isOpen(prefix) ? 'changes' : change === 'add' ? `at ${metric}` : LEAVES[event.kind] ?? 'is unreachable';
   const one = changes.filter(({ prefix }) => prefix !== event.prefix).map(change => `, ${change.prefix} ${becomes(change)}`);

@@ -3,14 +3,15 @@ import { namesOf } from './building.js';
 import { addLosses } from './losses.js';
 import { routeFor, targetIn } from './packets.js';
 
-// A step is a record of the trace with the network as it was after it: the routers, their latest moment, how much `earlier`
-// it is than what came before it, what is out (`link N` that is cut, `router R` that is silent, each with the line that says
-// so), what the script says of that, and `least`, kept least costs.
+// A step is a record of the trace, or a line that has none, with the network as it was after it: the routers, their latest
+// moment, how much `earlier` it is than what came before it, what is out (`link N` that is cut, `router R` that is silent, each
+// with the line that says so), and `least`, kept least costs.
 export function readTrace(text, script = '') {
   const trace = { steps: [], datagrams: [], links: new Map(), ends: [], routerAt: new Map(), names: namesOf(script) };
   const lines = script.split('\n'), isForged = ({ line }) => lines[line - 1]?.trim().startsWith('liar');
-  for (const line of text.split('\n')) if (line) addRecord(trace, JSON.parse(line), isForged);
-  addOutages(trace, script);
+  const records = text.split('\n').filter(Boolean).map(line => JSON.parse(line)), outages = outagesIn(lines, trace.names);
+  for (const record of withOutages(records, outages)) addRecord(trace, record, isForged);
+  addOutages(trace, outages);
   addLosses(trace, script);
   return trace;
 }
@@ -18,10 +19,13 @@ export function readTrace(text, script = '') {
 // A router's name: that of the script, else R and its number.
 export const nameOf = ({ names }, router) => names.get(router) ?? `R${router}`;
 
+// The Requests that a router sends by itself follow the record of that, and have it as `asks`.
 function addRecord(trace, record, isForged) {
   const step = trace.steps.length;
   if (record.record === 'start') addEnds(trace, record.routers);
-  for (const sent of record.sent ?? []) addDatagram(trace, sent, step);
+  const before = trace.steps.at(-1)?.record, asks = before?.record === 'asks' ? before : before?.asks;
+  if (record.event?.kind === 'link_up' && asks?.router === record.router && asks.line === record.line) record.asks = asks;
+  for (const sent of record.sent ?? []) addDatagram(trace, sent, step, record);
   if (record.event?.kind === 'liar' && !isForged(record)) addDatagramOf(trace, record);
   if (record.event?.datagram !== undefined) addArrival(trace, record, step);
   const routers = routersAfter(trace.steps.at(-1)?.routers ?? [], record, step);
@@ -45,10 +49,11 @@ export const senderAt = (trace, address) =>
   trace.routerAt.has(address) ? nameOf(trace, trace.routerAt.get(address)) : address;
 
 // A datagram has its arrivals; `doneAt` is the step at which it has come to all others of its link, `lostAt` that at which
-// it is lost.
-function addDatagram(trace, sent, step) {
-  const end = trace.ends[sent.router][sent.iface];
-  trace.datagrams.push({ ...sent, end, sentAt: step, arrivals: [], doneAt: Infinity, lostAt: Infinity });
+// it is lost. A Request of a router that lost a route has the record that says so, `asks`, and a Response that answers
+// another datagram has its number, `answers`.
+function addDatagram(trace, sent, step, { asks = null, event }) {
+  const end = trace.ends[sent.router][sent.iface], answers = event?.kind === 'deliver' ? event.datagram : null;
+  trace.datagrams.push({ ...sent, end, asks, answers, sentAt: step, arrivals: [], doneAt: Infinity, lostAt: Infinity });
   end.sent.push(trace.datagrams.at(-1));
 }
 
@@ -91,27 +96,40 @@ function tableAfter(table, { routes, gone, event }, step) {
   return after;
 }
 
-// Lines that cut links and silence routers have no record: each belongs to the step before it.
+// Lines that cut links and silence routers have no record, and are steps of their own. `down` and `up` have the records of their
+// routers. A line that another announces as refused does nothing, and is a step that says so.
 const OUTAGES = new Map([['cut', ['link', 'is cut']], ['mend', ['link', 'is mended']],
   ['down', ['link', 'goes down']], ['up', ['link', 'comes up']],
   ['silent', ['router', 'fails']], ['speaks', ['router', 'is up again']]]);
-function addOutages({ steps, names }, script) {
-  const lines = script.split('\n'), numbers = new Map([...names].map(([router, name]) => [name, router]));
-  let out = new Map(), least = new Map(), at = 0;
-  steps.forEach((step, number) => {
-    const { record } = step, isRefused = record.record === 'refused', said = [];
-    const next = steps[number + 1]?.record.line ?? (isRefused ? 0 : lines.length + 1);
-    for (; at < Math.min(next - 1, lines.length); at++) {
-      const [word, what] = lines[at].split(' '), [kind, does] = OUTAGES.get(word) ?? [];
-      const thing = `${kind} ${kind === 'router' ? numbers.get(what) ?? what : what}`;
-      if (!kind) continue;
-      said.push(`line ${at + 1}: ${kind === 'router' ? nameOf({ names }, Number(thing.slice(7))) : thing} ${does}`);
-      out = new Map([...out].filter(([other]) => other !== thing));
-      if (/^(cut|silent|down)$/.test(word)) out.set(thing, at + 1);
-    }
-    if (said.length > 0 || ['cost', 'gain', 'drop'].includes(record.event?.kind)) least = new Map();
-    Object.assign(step, { out, said, least });
+function outagesIn(lines, names) {
+  const numbers = new Map([...names].map(([router, name]) => [name, router]));
+  return lines.flatMap((text, at) => {
+    const [word, what] = text.split(' '), [kind, does] = OUTAGES.get(word) ?? [], said = /^refused (\w+)/.exec(lines[at - 1])?.[1];
+    if (said && text && !text.startsWith('#')) return [{ record: 'outage', line: at + 1, thing: null, does: `refused, as announced: ${said}` }];
+    if (word === 'asking') return [{ record: 'outage', line: at + 1, thing: null, does: what === 'off' ? 'routers ask no longer' : 'from now on routers that lose a route ask' }];
+    const number = kind === 'router' ? numbers.get(what) ?? Number(what) : Number(what);
+    return kind ? [{ record: 'outage', line: at + 1, thing: `${kind} ${number}`, does, isOut: /^(cut|silent|down)$/.test(word) }] : [];
   });
+}
+
+function withOutages(records, outages) {
+  const have = new Set(records.map(({ line }) => line)), end = records.at(-1);
+  const last = end?.record === 'refused' ? end.line : Infinity, first = records[0]?.line ?? Infinity;
+  const own = outages.filter(({ line }) => line > first && line < last && !have.has(line));
+  return [...records, ...own].sort((a, b) => a.line - b.line);
+}
+
+function addOutages({ steps }, outages) {
+  const waiting = new Map(outages.filter(({ thing }) => thing).map(outage => [outage.line, outage]));
+  let out = new Map(), least = new Map();
+  for (const step of steps) {
+    const { record } = step, { thing, isOut } = record.record === 'refused' ? {} : waiting.get(record.line) ?? {};
+    if (thing) waiting.delete(record.line);
+    if (thing) out = new Map([...out].filter(([other]) => other !== thing));
+    if (thing && isOut) out.set(thing, record.line);
+    if (thing || ['cost', 'gain', 'drop'].includes(record.event?.kind)) least = new Map();
+    Object.assign(step, { out, least });
+  }
 }
 
 export const routeAt = ({ routers }, router, prefix) => routers[router].table.get(prefix)?.route;

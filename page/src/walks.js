@@ -73,6 +73,12 @@ const OUTCOMES = {
   Revived: 'was unreachable: installed', Gone: 'already unreachable',
 };
 
+// A next hop is believed whatever it offers, also what is worse than before: that makes counting possible.
+function outcomeOf(why, metric, before) {
+  if (metric >= UNREACHABLE && why === 'Dearer') return OUTCOMES.Nothing;
+  return why === 'Refreshed' && metric > before ? 'from its next hop: believed though worse' : OUTCOMES[why];
+}
+
 // What a router makes of each offer of a Response that came at a step: what it held, what was offered, what it holds.
 export function offersOf({ steps, datagrams }, step) {
   const { record: { event, router, offers }, routers } = steps[step];
@@ -80,7 +86,7 @@ export function offersOf({ steps, datagrams }, step) {
   const entries = entriesOf(datagrams[event.datagram].bytes), { cost } = routers[router].interfaces[event.iface];
   return offers.map(({ entry, prefix, metric, why }) => ({
     prefix, told: entries[entry].metric, cost, offered: metric,
-    outcome: metric >= UNREACHABLE && why === 'Dearer' ? OUTCOMES.Nothing : OUTCOMES[why],
+    outcome: outcomeOf(why, metric, routeAt(steps[step - 1], router, prefix)?.metric),
     before: routeAt(steps[step - 1], router, prefix)?.metric, after: routeAt(steps[step], router, prefix)?.metric,
   }));
 }
