@@ -14,7 +14,7 @@ pub use Rattle.ripng_world.specs.Stations.{coded_states, network_of, world_of, I
 pub use Rattle.ripng_world.specs.Labs.{LabValue, lab_error_name, refusal_of, Keeps, HasRun, HasNoneBelowLeast, HasNoneBelowLeastSince, AreDatagramsSoundSince, AreDatagramsSound, HappensGiving, IsRefusedNext, StepEnds, link_at, event_fault, lab_of, Acts, IsOwnRefusal, IsPlacedIn, own_refusal, missing_interface_reasons, missing_router_reasons}
 pub use Rattle.ripng_world.specs.Lying.{lie_fault, IsLieRefusal, LiesGiving}
 pub use Rattle.ripng_world.specs.AskedRounds.{deliveries_of, delivery, interfaces_of, is_other, is_picked, other_deliveries, pairs_since, picked_deliveries, AreAllMade, Converges, ticks_of}
-pub use Rattle.ripng_world.specs.Linked.{AreListed, interfaces_there, listed_on, place_if}
+pub use Rattle.ripng_world.specs.Linked.{AreListed, interfaces_on, interfaces_there, listed_on, place_if}
 pub use Rattle.ripng_world.specs.Delivering.{StopAt, StopForMemory, deliveries_since}
 pub use Rattle.ripng_world.specs.Stopping.{HaveStopped, RoundStops, RoundsStop, round_in, stop_name}
 pub use Rattle.ripng_world.specs.Watching.{HeardInPart, WatchedInPart, WatchedRun, failures, heard, AreMadeTold, IfRefused, IsMadeTold, RoundToldInPart, RoundsToldInPart, due, WatchedUntil, failures_in, refusal_in, Told, refused_as}

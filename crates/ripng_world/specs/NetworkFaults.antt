@@ -6,7 +6,7 @@ use Rattle.ripng_world.specs.declared.network.NetRefused.TheVariants.{OutOfMemor
 
 -- the most routers of a network
 abbrev pub router_limit : ℕ
-router_limit = 64
+router_limit = 4096
 
 -- the reasons to refuse the configuration of a router with that number
 abbrev pub faults_of_router : ℕ → Node → List (Bool × NetRefused)

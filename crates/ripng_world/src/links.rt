@@ -12,7 +12,7 @@ use std::collections::BTreeMap;
 /// The interfaces on each link, each after its router's number, in order.
 #[derive(Drop)]
 pub struct Links {
-    places: BTreeMap<u16, Vec<(usize, usize)>>,
+    places: BTreeMap<u32, Vec<(usize, usize)>>,
 }
 
 impl Links {
@@ -40,7 +40,7 @@ impl Links {
     }
 
     /// An interface goes to the end of its link's list.
-    fn add(&mut self, link: u16, place: (usize, usize)) -> Result<(), AllocError>
+    fn add(&mut self, link: u32, place: (usize, usize)) -> Result<(), AllocError>
         ensures { OnOk result ((other : ℕ) → listed_on self.new other ≡ listed_on self.old other ++ place_if other link place) }
     {
         self.places.entry(link)?.or_default().push(place)?;
@@ -48,7 +48,7 @@ impl Links {
     }
 
     /// The interfaces on a link.
-    pub fn on(&self, link: u16) -> &[(usize, usize)]
+    pub fn on(&self, link: u32) -> &[(usize, usize)]
         ensures { result.now ≡ listed_on self.now link }
     {
         self.places

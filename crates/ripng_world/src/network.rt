@@ -10,14 +10,14 @@ use std::alloc::{AllocError, Global};
 use std::marker::Model;
 
 /// The most routers of a network.
-pub const ROUTER_LIMIT: usize = 64;
+pub const ROUTER_LIMIT: usize = 4_096;
 
 /// An interface of a router in a network.
 #[derive(Clone, Copy, Debug, PartialEq, Eq)]
 pub struct NetInterface {
     pub interface: Interface,
     /// The number of its link: interfaces of one link receive from each other.
-    pub link: u16,
+    pub link: u32,
 }
 
 /// The configuration of one router of a network. In a laboratory it has no filters, no limits and no passive interfaces of its own.
@@ -174,16 +174,16 @@ fn addresses(alloc: Global, routers: &[NetRouter]) -> Result<Vec<Addr6>, AllocEr
     Ok(all)
 }
 
-/// Whether some address is an earlier one.
-fn check_addresses(addresses: &[Addr6]) -> Result<(), NetRefused>
-    ensures { result_err result ≡ first_reason (reasons_of_each address_reasons addresses.now) }
+/// Whether some address is an earlier one. Sorts them, so that equal ones are neighbors.
+fn check_addresses(addresses: &mut [Addr6]) -> Result<(), NetRefused>
+    ensures { result_err result ≡ first_reason (reasons_of_each address_reasons addresses.old) }
 {
-    for (place, &addr) in addresses.iter().enumerate() {
-        if addresses[..place].contains(&addr) {
-            return Err(NetRefused::AddressSharedInNetwork);
-        }
+    addresses.sort_unstable();
+    if addresses.is_sorted_by(|one, next| one < next) {
+        Ok(())
+    } else {
+        Err(NetRefused::AddressSharedInNetwork)
     }
-    Ok(())
 }
 
 /// Each router, if all are lawful.
@@ -221,8 +221,8 @@ impl NetConfig {
             return Err(NetRefused::ZoneNamed);
         }
         let routers = check_routers(alloc, routers)?;
-        let addresses = addresses(alloc, &routers)?;
-        check_addresses(&addresses)?;
+        let mut addresses = addresses(alloc, &routers)?;
+        check_addresses(&mut addresses)?;
         Ok(NetConfig { routers })
     }
 }

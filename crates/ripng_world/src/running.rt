@@ -2,7 +2,7 @@
 //! router has received a forged Response: that is promised of a `Lab`, which is made of this.
 
 ghost use Rattle.std.specs.Prelude.{◌≡◌, ℕ, ◌∷◌, [], Some, IfErr, IfOk, OnErr, length, slice_get, option_copied};
-ghost use Rattle.ripng_world.specs.Common.{result_err, first_reason, event_of, event_fault, HappensGiving, StepEnds, link_at, missing_interface_reasons, missing_router_reasons, lie_fault, Acts, IsOwnRefusal, IsPlacedIn, Deliver, Stranger, is_heard, IsLieRefusal, LiesGiving, IfRefused, WatchedInPart, failures, refusal_in, LabValue, lab_of, coded_states, AreListed, network_of};
+ghost use Rattle.ripng_world.specs.Common.{result_err, first_reason, event_of, event_fault, HappensGiving, StepEnds, link_at, missing_interface_reasons, missing_router_reasons, lie_fault, Acts, IsOwnRefusal, IsPlacedIn, Deliver, Stranger, is_heard, IsLieRefusal, LiesGiving, IfRefused, WatchedInPart, failures, refusal_in, LabValue, lab_of, coded_states, AreListed, interfaces_on, network_of};
 
 use crate::event::{Event, LabError, Sent};
 use crate::links::Links;
@@ -74,10 +74,17 @@ impl<S: RouteStore> Running<S> {
     }
 
     /// The number of the link of an interface, if the network has such a router and interface.
-    pub fn link(&self, router: usize, iface: usize) -> Option<u16>
+    pub fn link(&self, router: usize, iface: usize) -> Option<u32>
         ensures { result ≡ link_at self.now.network router iface }
     {
         interface_at(&self.stations, router, iface).map(|i| i.link)
+    }
+
+    /// The interfaces on a link, each after its router's number, in order.
+    pub fn interfaces_on(&self, link: u32) -> &[(usize, usize)]
+        ensures { result.now ≡ interfaces_on self.now.network link }
+    {
+        self.links.on(link)
     }
 
     /// Whether there is such a router.
@@ -89,7 +96,7 @@ impl<S: RouteStore> Running<S> {
     }
 
     /// The link of an interface, if there is such a router and interface.
-    fn check_interface(&self, router: usize, iface: usize) -> Result<u16, LabError>
+    fn check_interface(&self, router: usize, iface: usize) -> Result<u32, LabError>
         ensures fault { result_err result ≡ first_reason (missing_interface_reasons self.now.network router iface) }
         ensures link { IfOk result (λ link. link_at self.now.network router iface ≡ Some link) }
     {

@@ -26,7 +26,7 @@ returns-in_err-check_addresses-clause-refused c =
     let p = err_from_is_err_and c.from_residual-in_err-check_addresses.result c.from_residual-in_err-check_addresses.ensures.1 in
     let few : length c.args.routers.items ≤ router_limit = omega (arith, c.if-len-gt-ROUTER_LIMIT.false, c.len.ensures, c.args.routers.ok.0) in
     let unnamed : list_any names_zone c.args.routers.items ≡ false = ap (list_any names_zone) (sym c.deref.ensures.value) ∙ sym c.name_zones.ensures ∙ c.if-name_zones.false in
-    let all = c.deref-3.ensures.value ∙ c.in_ok-addresses.ensures ∙ ap addresses (c.deref-2.ensures.value ∙ c.in_ok-routers.ensures.kept) in
+    let all = c.deref_mut.ensures.value ∙ c.in_ok-addresses.ensures ∙ ap addresses (c.deref-2.ensures.value ∙ c.in_ok-routers.ensures.kept) in
     rw (p.1, p.2) (λ _.
     by_addresses c.args.routers.items few unnamed c.in_ok-routers.ensures.passes
     ∙ ap (λ (xs : List ℕ). first_reason (reasons_of_each address_reasons xs)) (sym all) ∙ sym c.in_err-check_addresses.ensures)
@@ -35,7 +35,7 @@ passes : (c : goal.In_ok-check_addresses) → network_fault c.args.routers.items
 passes c =
     let few : length c.args.routers.items ≤ router_limit = omega (arith, c.if-len-gt-ROUTER_LIMIT.false, c.len.ensures, c.args.routers.ok.0) in
     let unnamed : list_any names_zone c.args.routers.items ≡ false = ap (list_any names_zone) (sym c.deref.ensures.value) ∙ sym c.name_zones.ensures ∙ c.if-name_zones.false in
-    let all = c.deref-3.ensures.value ∙ c.in_ok-addresses.ensures ∙ ap addresses (c.deref-2.ensures.value ∙ c.in_ok-routers.ensures.kept) in
+    let all = c.deref_mut.ensures.value ∙ c.in_ok-addresses.ensures ∙ ap addresses (c.deref-2.ensures.value ∙ c.in_ok-routers.ensures.kept) in
     by_addresses c.args.routers.items few unnamed c.in_ok-routers.ensures.passes
     ∙ ap (λ (xs : List ℕ). first_reason (reasons_of_each address_reasons xs)) (sym all) ∙ sym c.in_ok-check_addresses.ensures
 
