@@ -1,0 +1,16 @@
+pub mod Pairs
+pub mod Times
+pub mod Passing
+pub mod Alarming
+pub mod SettingOut
+pub mod Splitting
+pub mod Sendings
+pub mod OnTime
+pub mod Regularly
+pub mod Grouped
+pub mod Finishing
+pub mod Turned
+pub mod TurnByTurn
+pub mod Starting
+pub mod Going
+pub mod Ended

@@ -1,0 +1,9 @@
+pub mod Below
+pub mod Agenda
+pub mod Carrying
+pub mod Passing
+pub mod Ending
+pub mod Turning
+pub mod Timing
+pub mod Refusing
+pub mod Common
