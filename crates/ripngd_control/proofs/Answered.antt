@@ -5,14 +5,13 @@ use Rattle.std.specs.FinMap as map_of
 use Rattle.std.specs.Io.KnownBytes.{Appends}
 use Rattle.std.proofs.KnownBytes.{Appends-trans}
 use Rattle.std.proofs.lemmas.List.{append_assoc}
-use Rattle.fib.specs.Forwarding.{Forwarding}
-use Rattle.router_core.specs.Machine.{State}
 use Rattle.ripngd_engine.specs.Changing.{ShutsDownOnce, StepAnswer}
 use Rattle.ripngd_engine.specs.Seen.{Acts, Seen}
 use Rattle.ripngd_engine.specs.declared.report.ChangeFault.{ChangeFault}
 use Rattle.ripngd_engine.specs.declared.report.ChangeFault.TheVariants.{Refused, Ended}
 use Rattle.ripngd_control.specs.Answers.{AnswersCommand, GainsLines, ObeysStop, step_reply}
 use Rattle.ripngd_control.specs.Json.{status_json_answer}
+use Rattle.ripngd_control.specs.Links.{LinksSeen}
 use Rattle.ripngd_control.specs.Printed.{asked_and_done, counts_text, last_text, losses_text, neighbors_text, refusals_text, reply_line, row_lines, status_answer, tally_text}
 use Rattle.ripngd_control.specs.declared.answering.Rest.{Rest}
 use Rattle.ripngd_control.specs.declared.answering.RunState.{RunState}
@@ -56,29 +55,24 @@ pub others_said : (n : Neighbors) (rows : List Neighbor) → rows ≡ n.rows.ite
     → row_lines rows ++ (codes "others" ++ (tally_text n.others ++ 10 ∷ [])) ≡ neighbors_text n
 others_said n rows is some = rw (is, some) refl
 
-module _ (command : Option Command) (counts : Counts) (heard : Neighbors) (lost : Losses) (a : Seen) (old : Option (List ℕ)) (rest : Rest) (new : Option (List ℕ)) where
+module _ (command : Option Command) (counts : Counts) (heard : Neighbors) (links : LinksSeen) (lost : Losses) (a : Seen) (old : Option (List ℕ)) (rest : Rest) (new : Option (List ℕ)) where
   pub answers_counts : command ≡ Some commands.Counts → GainsLines old rest new (counts_text counts ++ (10 ∷ (losses_text lost ++ (10 ∷ asked_and_done counts.asked))))
-      → AnswersCommand command counts heard lost a old rest a new
-  answers_counts is said = subst (λ c. AnswersCommand c counts heard lost a old rest a new) (sym is) (refl, said)
+      → AnswersCommand command counts heard links lost a old rest a new
+  answers_counts is said = subst (λ c. AnswersCommand c counts heard links lost a old rest a new) (sym is) (refl, said)
 
   pub answers_status : command ≡ Some commands.Status
-      → GainsLines old rest new (status_answer a.machine.router.config.interfaces a.machine.router.last (map_of.len a.machine.fib) counts lost heard)
-      → AnswersCommand command counts heard lost a old rest a new
-  answers_status is said = subst (λ c. AnswersCommand c counts heard lost a old rest a new) (sym is) (refl, said)
+      → GainsLines old rest new (status_answer a.machine.router.config.interfaces a.machine.router.last (map_of.len a.machine.fib) counts lost heard links)
+      → AnswersCommand command counts heard links lost a old rest a new
+  answers_status is said = subst (λ c. AnswersCommand c counts heard links lost a old rest a new) (sym is) (refl, said)
 
-  pub answers_status_json : command ≡ Some commands.StatusJson → (router : State) (fib : Forwarding) → router ≡ a.machine.router → fib ≡ a.machine.fib
-      → GainsLines old rest new (status_json_answer router.config.interfaces router.last (map_of.len fib) counts lost heard)
-      → AnswersCommand command counts heard lost a old rest a new
-  answers_status_json is router fib router_is fib_is said =
-      subst (λ c. AnswersCommand c counts heard lost a old rest a new) (sym is) (
-        refl,
-        subst (λ (r : State). GainsLines old rest new (status_json_answer r.config.interfaces r.last (map_of.len a.machine.fib) counts lost heard)) router_is
-            (subst (λ (f : Forwarding). GainsLines old rest new (status_json_answer router.config.interfaces router.last (map_of.len f) counts lost heard)) fib_is said),
-      )
+  pub answers_status_json : command ≡ Some commands.StatusJson
+      → GainsLines old rest new (status_json_answer a.machine.router.config.interfaces a.machine.router.last (map_of.len a.machine.fib) counts lost heard links)
+      → AnswersCommand command counts heard links lost a old rest a new
+  answers_status_json is said = subst (λ c. AnswersCommand c counts heard links lost a old rest a new) (sym is) (refl, said)
 
   pub answers_neighbors : command ≡ Some commands.Neighbors → GainsLines old rest new (neighbors_text heard ++ reply_line replies.Done)
-      → AnswersCommand command counts heard lost a old rest a new
-  answers_neighbors is said = subst (λ c. AnswersCommand c counts heard lost a old rest a new) (sym is) (refl, said)
+      → AnswersCommand command counts heard links lost a old rest a new
+  answers_neighbors is said = subst (λ c. AnswersCommand c counts heard links lost a old rest a new) (sym is) (refl, said)
 
 -- ---- steps and their replies
 -- a router shut down, and then did what the second time answers

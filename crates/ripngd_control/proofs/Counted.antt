@@ -1,7 +1,8 @@
 -- Counts, one telling after another.
 use Rattle.std.proofs.Common.{◌≡◌, ◌∙◌, ℕ, ◌+◌, List, [], ◌∷◌, refl, sym, arith, subst}
 use Rattle.ripngd_engine.specs.Run.{counted}
-use Rattle.ripngd_engine.specs.Observer.{LinkReport, WasTold}
+use Rattle.ripngd_engine.specs.Observer.{LinkReport, Begins, WasTold}
+use Rattle.ripngd_engine.specs.declared.observer.Update.{Update}
 use Rattle.ripngd_control.specs.Watching.{Counted, Refused}
 use Rattle.ripngd_control.specs.declared.counts.Counts.{Counts}
 use Rattle.ripngd_control.specs.declared.refusals.Refusals.{Refusals}
@@ -22,6 +23,16 @@ Refused-one more r s h = record { by_number_are = λ number lt. counted-zero _ _
 
 pub Counted-none : (c : Counts) → Counted c [] c
 Counted-none c = record {
+  arrivals = counted-none c.arrivals;
+  sends = counted-none c.sends;
+  failed_sends = counted-none c.failed_sends;
+  refusals = record { by_number_are = λ number h. counted-none _ };
+  asked = refl;
+}
+
+-- an update is none of what is counted in all
+pub Counted-begins : (c : Counts) (update : Update) → Counted c (Begins update ∷ []) c
+Counted-begins c update = record {
   arrivals = counted-none c.arrivals;
   sends = counted-none c.sends;
   failed_sends = counted-none c.failed_sends;

@@ -16,7 +16,9 @@ use Rattle.router_core.specs.declared.config.Interface.{Interface}
 use Rattle.router_core.proofs.Sending.{element_at, take_numbered}
 use Rattle.ripngd_engine.specs.Log.{entry_lines, route_text}
 use Rattle.ripngd_control.specs.Answers.{Follow, ShowsEntries, ShowsRoutes, last_prefix}
-use Rattle.ripngd_control.specs.Printed.{interface_lines, row_lines, status_lines, status_text, tally_text}
+use Rattle.ripngd_engine.specs.Link.{queue_at}
+use Rattle.ripngd_control.specs.Links.{LinksSeen, link_at}
+use Rattle.ripngd_control.specs.Printed.{interface_line, interface_lines, row_lines, status_lines, status_text, tally_text}
 use Rattle.ripngd_control.specs.declared.neighbors.Neighbor.{Neighbor}
 
 -- ---- routes
@@ -64,12 +66,12 @@ pub row_lines_more : (rows : List Neighbor) (i : ℕ) (r : Neighbor) → i < len
 row_lines_more rows i r lt is =
     flat_map-take (λ n. codes "iface " ++ (decimal n.iface ++ (codes " from " ++ (written_addr n.source ++ (tally_text n.tally ++ 10 ∷ []))))) rows i r lt is
 
-pub interface_lines_more : (xs : List Interface) (i : ℕ) (x : Interface) → i < length xs → x ≡ get_or xs i x
-    → interface_lines (take (i + 1) (enumerate_from 0 xs)) ≡ interface_lines (take i (enumerate_from 0 xs)) ++ (codes "interface " ++ (decimal i ++ (codes " address " ++ (written_addr x.addr ++ (codes " cost " ++ (decimal x.cost ++ (codes " mtu " ++ (decimal x.mtu ++ 10 ∷ []))))))))
-interface_lines_more xs i x lt is =
-    ap interface_lines (take_numbered xs i x (element_at xs i x lt is))
-    ∙ flat_map-append (λ e. codes "interface " ++ (decimal e.0 ++ (codes " address " ++ (written_addr e.1.addr ++ (codes " cost " ++ (decimal e.1.cost ++ (codes " mtu " ++ (decimal e.1.mtu ++ 10 ∷ [])))))))) (take i (enumerate_from 0 xs)) ((i, x) ∷ [])
-    ∙ ap (λ (t : List ℕ). interface_lines (take i (enumerate_from 0 xs)) ++ t) (append-nil _)
+pub interface_lines_more : (links : LinksSeen) (xs : List Interface) (i : ℕ) (x : Interface) → i < length xs → x ≡ get_or xs i x
+    → interface_lines links (take (i + 1) (enumerate_from 0 xs)) ≡ interface_lines links (take i (enumerate_from 0 xs)) ++ interface_line (link_at links.rows i) (queue_at links.queues i) (i, x)
+interface_lines_more links xs i x lt is =
+    ap (interface_lines links) (take_numbered xs i x (element_at xs i x lt is))
+    ∙ flat_map-append (λ e. interface_line (link_at links.rows e.0) (queue_at links.queues e.0) e) (take i (enumerate_from 0 xs)) ((i, x) ∷ [])
+    ∙ ap (λ (t : List ℕ). interface_lines links (take i (enumerate_from 0 xs)) ++ t) (append-nil _)
 
 -- behind some routes there is a last prefix
 pub Follow-end : (table : Table) (after : Option Prefix6) (es : List (Prefix6 × RouteValue)) (end : Option Prefix6)

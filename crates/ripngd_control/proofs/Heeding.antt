@@ -4,6 +4,7 @@ use Rattle.ripngd_engine.specs.Seen.{Seen}
 use Rattle.ripngd_control.specs.Answers.{AnswersCommand, Obeys}
 use Rattle.ripngd_control.specs.Clients.{Heeds, TakesIn}
 use Rattle.ripngd_control.specs.Commands.{control_text}
+use Rattle.ripngd_control.specs.Links.{LinksSeen}
 use Rattle.ripngd_control.specs.declared.answering.Rest.{Rest}
 use Rattle.ripngd_control.specs.declared.command.Command.{Command}
 use Rattle.ripngd_control.specs.declared.command.Command.TheVariants as commands
@@ -18,12 +19,12 @@ pub cut : (command : Option Command) (bytes : List ℕ) (lines taken : List (Lis
     → (iface : ℕ) × (command ≡ Some (commands.LinkDown iface)) → (iface : ℕ) × (taken ≡ lines ++ control_text (commands.LinkDown iface) ∷ [])
 cut command bytes lines taken took (iface, is) = (iface, (subst (λ c. TakesIn c bytes lines taken) is took).1)
 
-module _ (counts : Counts) (heard : Neighbors) (lost : Losses) (bytes : List ℕ) (lines taken : List (List ℕ)) (a b : Seen) (old new : Option (List ℕ)) (rest : Rest) where
+module _ (counts : Counts) (heard : Neighbors) (links : LinksSeen) (lost : Losses) (bytes : List ℕ) (lines taken : List (List ℕ)) (a b : Seen) (old new : Option (List ℕ)) (rest : Rest) where
   obeyed : (c : Command) (reply : Reply) → taken ≡ lines ++ control_text c ∷ [] → Obeys c a reply b → Heeds lines a taken b
   obeyed c reply took does = inr (control_text c, took, (c, reply, refl, does))
 
   -- whatever the command, it was taken in and obeyed
-  pub heeds : (command : Option Command) → TakesIn command bytes lines taken → AnswersCommand command counts heard lost a old rest b new → Heeds lines a taken b
+  pub heeds : (command : Option Command) → TakesIn command bytes lines taken → AnswersCommand command counts heard links lost a old rest b new → Heeds lines a taken b
   heeds None took h = inl (took, h.0)
   heeds (Some commands.Routes) took h = obeyed commands.Routes replies.Done took.1 h.0
   heeds (Some commands.Table) took h = obeyed commands.Table replies.Done took.1 h.0

@@ -14,6 +14,7 @@ use Rattle.json.specs.Tree.{items_tokens, json_tokens, members_tokens}
 use Rattle.router_core.specs.declared.config.Interface.{Interface}
 use Rattle.router_core.proofs.Sending.{element_at, take_numbered}
 use Rattle.ripngd_control.specs.Json.{Grows, IsWholeText, items_of, link_json, list_of, members_of, object_of, router_json, rows_at, status_json, tally_members, text_of}
+use Rattle.ripngd_control.specs.Links.{LinksSeen}
 use Rattle.ripngd_control.specs.declared.counts.Counts.{Counts}
 use Rattle.ripngd_control.specs.declared.counts.Losses.{Losses}
 use Rattle.ripngd_control.specs.declared.json_text.JsonText.{JsonText}
@@ -104,18 +105,18 @@ Grows-row tokens {a} {b} {c} iface rows i row lt is there before more =
 
 -- ---- the whole
 -- the object of a status, of what its parts are read from
-abbrev pub status_parts : List Interface → ℕ → ℕ → Counts → Losses → List Neighbor → Tally → Json
-status_parts interfaces now routes counts lost rows others =
+abbrev pub status_parts : List Interface → ℕ → ℕ → Counts → Losses → List Neighbor → Tally → LinksSeen → Json
+status_parts interfaces now routes counts lost rows others links =
     object_of
     ((codes "router", router_json now routes counts lost)
-    ∷ (codes "links", list_of (link_json now rows) (enumerate_from 0 interfaces))
+    ∷ (codes "links", list_of (link_json now rows links) (enumerate_from 0 interfaces))
     ∷ (codes "others", object_of (tally_members now others))
     ∷ [])
 
-pub status_is : {interfaces xs : List Interface} {now n routes r : ℕ} {counts c : Counts} {rows : List Neighbor} {others : Tally} (lost : Losses) (heard : Neighbors)
+pub status_is : {interfaces xs : List Interface} {now n routes r : ℕ} {counts c : Counts} {rows : List Neighbor} {others : Tally} (lost : Losses) (heard : Neighbors) (links : LinksSeen)
     → interfaces ≡ xs → now ≡ n → routes ≡ r → counts ≡ c → rows ≡ heard.rows.items → others ≡ heard.others
-    → status_parts interfaces now routes counts lost rows others ≡ status_json xs n r c lost heard
-status_is lost heard interfaces_are now_is routes_are counts_are rows_are others_are = rw (interfaces_are, now_is, routes_are, counts_are, rows_are, others_are) refl
+    → status_parts interfaces now routes counts lost rows others links ≡ status_json xs n r c lost heard links
+status_is lost heard links interfaces_are now_is routes_are counts_are rows_are others_are = rw (interfaces_are, now_is, routes_are, counts_are, rows_are, others_are) refl
 
 -- a text that had nothing, and has a value's tokens, is the value's
 pub whole_text : (a b : JsonText) (json : Json) (bytes : List ℕ) → a.writer.before ≡ [] → a.writer.tokens ≡ [] → Grows a b (json_tokens json) → IsWholeText b bytes

@@ -5,6 +5,7 @@ use Rattle.std.specs.FinMap as map_of
 use Rattle.router_core.specs.declared.reconfiguring.ReconfigureRefused.TheVariants as refusals
 use Rattle.ripngd_control.specs.Printed.{asked_and_done, counts_text, lookup_text, losses_text, neighbors_text, reply_line, status_answer, status_lines}
 use Rattle.ripngd_control.specs.Json.{status_json_answer}
+use Rattle.ripngd_control.specs.Links.{LinksSeen}
 use Rattle.ripngd_control.specs.declared.answering.Rest.TheVariants as rests
 use Rattle.ripngd_control.specs.declared.answering.RunState.TheVariants as states
 use Rattle.ripngd_control.specs.declared.command.Command.TheVariants as commands
@@ -91,21 +92,21 @@ abbrev pub GainsLines : Option (List ℕ) → Rest → Option (List ℕ) → Lis
 GainsLines old rest new text = rest ≢ rests.Lost → (rest ≡ rests.Nothing) × Appends old new text
 
 -- what was done and written for a command, or for a line that is no command
-abbrev pub AnswersCommand : Option Command → Counts → Neighbors → Losses → Seen → Option (List ℕ) → Rest → Seen → Option (List ℕ) → Type 0
-AnswersCommand None counts heard lost a old rest b new = (b ≡ a) × GainsLines old rest new (reply_line replies.NoSuchCommand)
-AnswersCommand (Some commands.Routes) counts heard lost a old rest b new = (b ≡ a) × (rest ≡ rests.Routes None) × (new ≡ old)
-AnswersCommand (Some commands.Table) counts heard lost a old rest b new = (b ≡ a) × (rest ≡ rests.Table None) × (new ≡ old)
-AnswersCommand (Some commands.Counts) counts heard lost a old rest b new =
+abbrev pub AnswersCommand : Option Command → Counts → Neighbors → LinksSeen → Losses → Seen → Option (List ℕ) → Rest → Seen → Option (List ℕ) → Type 0
+AnswersCommand None counts heard links lost a old rest b new = (b ≡ a) × GainsLines old rest new (reply_line replies.NoSuchCommand)
+AnswersCommand (Some commands.Routes) counts heard links lost a old rest b new = (b ≡ a) × (rest ≡ rests.Routes None) × (new ≡ old)
+AnswersCommand (Some commands.Table) counts heard links lost a old rest b new = (b ≡ a) × (rest ≡ rests.Table None) × (new ≡ old)
+AnswersCommand (Some commands.Counts) counts heard links lost a old rest b new =
     (b ≡ a) × GainsLines old rest new (counts_text counts ++ (10 ∷ (losses_text lost ++ (10 ∷ asked_and_done counts.asked))))
-AnswersCommand (Some commands.Neighbors) counts heard lost a old rest b new = (b ≡ a) × GainsLines old rest new (neighbors_text heard ++ reply_line replies.Done)
-AnswersCommand (Some commands.Status) counts heard lost a old rest b new = (b ≡ a)
-    × GainsLines old rest new (status_answer a.machine.router.config.interfaces a.machine.router.last (map_of.len a.machine.fib) counts lost heard)
-AnswersCommand (Some commands.StatusJson) counts heard lost a old rest b new = (b ≡ a)
-    × GainsLines old rest new (status_json_answer a.machine.router.config.interfaces a.machine.router.last (map_of.len a.machine.fib) counts lost heard)
-AnswersCommand (Some (commands.Lookup destination)) counts heard lost a old rest b new = (b ≡ a)
+AnswersCommand (Some commands.Neighbors) counts heard links lost a old rest b new = (b ≡ a) × GainsLines old rest new (neighbors_text heard ++ reply_line replies.Done)
+AnswersCommand (Some commands.Status) counts heard links lost a old rest b new = (b ≡ a)
+    × GainsLines old rest new (status_answer a.machine.router.config.interfaces a.machine.router.last (map_of.len a.machine.fib) counts lost heard links)
+AnswersCommand (Some commands.StatusJson) counts heard links lost a old rest b new = (b ≡ a)
+    × GainsLines old rest new (status_json_answer a.machine.router.config.interfaces a.machine.router.last (map_of.len a.machine.fib) counts lost heard links)
+AnswersCommand (Some (commands.Lookup destination)) counts heard links lost a old rest b new = (b ≡ a)
     × (found : Option Entry) × IsLookedUp a.machine.fib destination.0 found × GainsLines old rest new (lookup_text found ++ (10 ∷ reply_line replies.Done))
-AnswersCommand (Some commands.StopNow) counts heard lost a old rest b new = (b ≡ a) × GainsLines old rest new (reply_line replies.Done)
-AnswersCommand (Some command) counts heard lost a old rest b new =
+AnswersCommand (Some commands.StopNow) counts heard links lost a old rest b new = (b ≡ a) × GainsLines old rest new (reply_line replies.Done)
+AnswersCommand (Some command) counts heard links lost a old rest b new =
     (reply : Reply) × Obeys command a reply b × GainsLines old rest new (reply_line reply)
 
 -- ---- what is answered in pieces

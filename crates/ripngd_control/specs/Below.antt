@@ -14,11 +14,15 @@ pub use Rattle.prefix6.specs.Written.{written_addr, written_prefix}
 pub use Rattle.ripng_wire.specs.Wire.{is_response}
 pub use Rattle.ripng_wire.specs.declared.error.WireError.TheVariants.{Short, TooLong, Ragged, BadCommand, BadVersion, NotZero}
 pub use Rattle.ripngd_engine.specs.Changing.{LinkComesUpOnce, LinkGoesDownOnce, ReconfiguresNothing, ReconfiguresOnce, ShutsDownOnce, why_refused}
+pub use Rattle.ripngd_engine.specs.Link.{queue_at}
 pub use Rattle.ripngd_engine.specs.Log.{entry_lines, HasNoLineFeed, route_text}
-pub use Rattle.ripngd_engine.specs.Observer.{LinkReport, Processed, Sent, WasTold}
+pub use Rattle.ripngd_engine.specs.Observer.{LinkReport, Processed, Begins, Sent, WasTold}
 pub use Rattle.ripngd_engine.specs.Run.{Machine, Trace, counted}
 pub use Rattle.ripngd_engine.specs.Seen.{Acts, Seen, seen}
+pub use Rattle.ripngd_engine.specs.declared.link.Queue.{Queue}
 pub use Rattle.ripngd_engine.specs.declared.observer.Arrived.{Arrived}
+pub use Rattle.ripngd_engine.specs.declared.observer.Update.{Update}
+pub use Rattle.ripngd_engine.specs.declared.observer.Update.TheVariants.{Regular, Triggered}
 pub use Rattle.ripngd_engine.specs.declared.report.ChangeFault.{ChangeFault}
 pub use Rattle.ripngd_engine.specs.declared.report.ChangeFault.TheVariants.{Refused, Ended}
 pub use Rattle.route_table.specs.Route.{RouteValue}
@@ -47,6 +51,8 @@ pub use Rattle.ripngd_control.specs.declared.command.PeerChange.TheVariants.{Add
 pub use Rattle.ripngd_control.specs.declared.counts.Counts.{Counts}
 pub use Rattle.ripngd_control.specs.declared.counts.Losses.{Losses}
 pub use Rattle.ripngd_control.specs.declared.json_text.JsonText.{JsonText}
+pub use Rattle.ripngd_control.specs.declared.links.Links.{Links}
+pub use Rattle.ripngd_control.specs.declared.links.LinkTally.{LinkTally}
 pub use Rattle.ripngd_control.specs.declared.monitor.Monitor.{Monitor}
 pub use Rattle.ripngd_control.specs.declared.neighbors.Neighbor.{Neighbor}
 pub use Rattle.ripngd_control.specs.declared.neighbors.Neighbors.{Neighbors}

@@ -1,9 +1,10 @@
 -- The answer to `status json`: what `status` prints, as JSON (RFC 8259), in the shape of `ripngd-links status --json` (that shape is this
 -- project's choice). A count is there as 0 where nothing was counted.
 use Rattle.std.specs.Prelude.{ℕ, ◌≡◌, ◌==◌, ◌-◌, ◌/◌, false, List, [], ◌∷◌, ◌++◌, Option, None, Some, codes, decimal, filter, map, slice_index_or}
-use Rattle.ripngd_control.specs.Below.{Items, Json, JsonText, Members, Token, array, boolean, enumerate_from, fault_name, item, json_tokens, member, no_items, no_members, note_name, null, number, object, print, string, written_addr, Interface, Counts, Losses, Neighbor, Neighbors, Tally, Refusal, Arrival, Refusals}
+use Rattle.ripngd_control.specs.Below.{Items, Json, JsonText, Members, Token, array, boolean, enumerate_from, fault_name, item, json_tokens, member, no_items, no_members, note_name, null, number, object, print, string, written_addr, Interface, Counts, Losses, Neighbor, Neighbors, Tally, Refusal, Arrival, Refusals, LinkTally, Queue, queue_at}
 use Rattle.ripngd_control.specs.declared.refusals.Refusal.TheVariants.{Entry}
 use Rattle.ripngd_control.specs.declared.reply.Reply.TheVariants as replies
+use Rattle.ripngd_control.specs.Links.{LinksSeen, link_at}
 use Rattle.ripngd_control.specs.Printed.{every_refusal, refusal_number, reply_line}
 
 -- ---- values
@@ -62,16 +63,22 @@ neighbor_json now n = object_of ((codes "address", string (written_addr n.source
 abbrev pub rows_at : ℕ → List Neighbor → List Neighbor
 rows_at iface rows = filter (λ n. n.iface == iface) rows
 
--- an interface with its number, and its neighbors
-abbrev pub link_json : ℕ → List Neighbor → ℕ × Interface → Json
-link_json now rows e =
+-- an interface with its number, what is counted there, what waits to be sent there, its neighbors, and what came of all that sent there
+abbrev pub counted_link_json : ℕ → List Neighbor → LinkTally → Queue → ℕ × Interface → Json
+counted_link_json now rows counted queue e =
     object_of
     ((codes "interface", number_of e.0)
     ∷ (codes "address", string (written_addr e.1.addr))
     ∷ (codes "cost", number_of e.1.cost)
     ∷ (codes "mtu", number_of e.1.mtu)
+    ∷ (codes "triggered_updates", number_of counted.triggered)
+    ∷ (codes "queued", number_of queue.waiting)
+    ∷ (codes "queued_answers", number_of queue.answers)
     ∷ (codes "neighbors", list_of (neighbor_json now) (rows_at e.0 rows))
-    ∷ [])
+    ∷ tally_members now counted.tally)
+
+abbrev pub link_json : ℕ → List Neighbor → LinksSeen → ℕ × Interface → Json
+link_json now rows links e = counted_link_json now rows (link_at links.rows e.0) (queue_at links.queues e.0) e
 
 -- the router in all
 abbrev pub router_json : ℕ → ℕ → Counts → Losses → Json
@@ -92,11 +99,11 @@ router_json now routes counts lost =
     ∷ [])
 
 -- the router, its interfaces with their neighbors, and all other senders: of the same as `status_answer`
-abbrev pub status_json : List Interface → ℕ → ℕ → Counts → Losses → Neighbors → Json
-status_json interfaces now routes counts lost heard =
+abbrev pub status_json : List Interface → ℕ → ℕ → Counts → Losses → Neighbors → LinksSeen → Json
+status_json interfaces now routes counts lost heard links =
     object_of
     ((codes "router", router_json now routes counts lost)
-    ∷ (codes "links", list_of (link_json now heard.rows.items) (enumerate_from 0 interfaces))
+    ∷ (codes "links", list_of (link_json now heard.rows.items links) (enumerate_from 0 interfaces))
     ∷ (codes "others", object_of (tally_members now heard.others))
     ∷ [])
 
@@ -106,8 +113,8 @@ abbrev pub text_of : Json → List ℕ
 text_of json = print (json_tokens json)
 
 -- the answer: that text in one line, and `ok`
-abbrev pub status_json_answer : List Interface → ℕ → ℕ → Counts → Losses → Neighbors → List ℕ
-status_json_answer interfaces now routes counts lost heard = text_of (status_json interfaces now routes counts lost heard) ++ (10 ∷ reply_line replies.Done)
+abbrev pub status_json_answer : List Interface → ℕ → ℕ → Counts → Losses → Neighbors → LinksSeen → List ℕ
+status_json_answer interfaces now routes counts lost heard links = text_of (status_json interfaces now routes counts lost heard links) ++ (10 ∷ reply_line replies.Done)
 
 -- these tokens are written behind the others, unless memory was refused, now or before
 pub record Grows (old new : JsonText) (tokens : List Token) : Type 0 where

@@ -1,4 +1,5 @@
 pub mod Commands
+pub mod Links
 pub mod Printed
 pub mod Json
 pub mod Watching

@@ -1,7 +1,8 @@
 -- What is printed of what is refused, counted, lost and answered (the format is this project's choice).
 use Rattle.std.specs.Prelude.{ℕ, ◌-◌, ◌==◌, List, [], ◌∷◌, ◌++◌, Option, None, Some, codes, decimal, flat_map, if◌then◌else◌, slice_index_or}
-use Rattle.ripngd_control.specs.Below.{enumerate_from, Prefix6, written_addr, written_prefix, Entry as FibEntry, Short, TooLong, Ragged, BadCommand, BadVersion, NotZero, RouteValue, Clock, Fixed, Live, Dying, Origin, Learned, fault_number, fault_text, note_number, note_text, reconfigure_text, Note, BadLength, BadPrefix, BadMetric, TableFull, NoMemory, NotAccepted, LimitReached, Fault, Interface, Wire, NotRipngPort, NotLinkLocal, OwnAddress, HopLimit, EmptyRequest, BadSource, route_text, LinkReport, Processed, Sent, Arrived, Counts, Losses, Neighbor, Neighbors, Tally, Refusal, Arrival, Refusals, Reply}
+use Rattle.ripngd_control.specs.Below.{enumerate_from, Prefix6, written_addr, written_prefix, Entry as FibEntry, Short, TooLong, Ragged, BadCommand, BadVersion, NotZero, RouteValue, Clock, Fixed, Live, Dying, Origin, Learned, fault_number, fault_text, note_number, note_text, reconfigure_text, Note, BadLength, BadPrefix, BadMetric, TableFull, NoMemory, NotAccepted, LimitReached, Fault, Interface, Wire, NotRipngPort, NotLinkLocal, OwnAddress, HopLimit, EmptyRequest, BadSource, route_text, LinkReport, Processed, Begins, Sent, Arrived, Counts, Losses, Neighbor, Neighbors, Tally, Refusal, Arrival, Refusals, Reply, LinkTally, Queue, queue_at}
 use Rattle.route_table.specs.declared.route.Origin.TheVariants.{Own}
+use Rattle.ripngd_control.specs.Links.{LinksSeen, link_at}
 use Rattle.ripngd_control.specs.declared.refusals.Refusal.TheVariants.{Entry}
 use Rattle.ripngd_control.specs.declared.reply.Reply.TheVariants as replies
 
@@ -29,6 +30,7 @@ note_lines a notes =
 -- the lines of a report
 abbrev pub lines_of : LinkReport → List ℕ
 lines_of (Processed a bytes fault notes) = refusal_lines a fault ++ note_lines a notes
+lines_of (Begins update) = []
 lines_of (Sent s went) = []
 
 -- ---- counts
@@ -90,10 +92,21 @@ losses_text l =
     ++ (codes " arrivals " ++ (decimal l.arrivals ++ (codes "\nstrangers " ++ (decimal l.strangers ++ (if l.report.log_failed then codes "\nlog failed" else []))))))))
 
 -- ---- a router in short
--- `interface I address ADDR cost C mtu M`, a line for each of these interfaces with their numbers
-abbrev pub interface_lines : List (ℕ × Interface) → List ℕ
-interface_lines numbered = flat_map (λ e. codes "interface " ++ (decimal e.0 ++ (codes " address " ++ (written_addr e.1.addr
-    ++ (codes " cost " ++ (decimal e.1.cost ++ (codes " mtu " ++ (decimal e.1.mtu ++ 10 ∷ [])))))))) numbered
+-- ` triggered T queued Q answers A`, what came there, and then the lines of what was refused
+abbrev pub link_text : LinkTally → Queue → List ℕ
+link_text counted queue =
+    codes " triggered " ++ (decimal counted.triggered ++ (codes " queued " ++ (decimal queue.waiting ++ (codes " answers "
+    ++ (decimal queue.answers ++ tally_text counted.tally)))))
+
+-- `interface I address ADDR cost C mtu M`, and that
+abbrev pub interface_line : LinkTally → Queue → ℕ × Interface → List ℕ
+interface_line counted queue e =
+    codes "interface " ++ (decimal e.0 ++ (codes " address " ++ (written_addr e.1.addr ++ (codes " cost " ++ (decimal e.1.cost
+    ++ (codes " mtu " ++ (decimal e.1.mtu ++ (link_text counted queue ++ 10 ∷ []))))))))
+
+-- the same for each of these interfaces with their numbers
+abbrev pub interface_lines : LinksSeen → List (ℕ × Interface) → List ℕ
+interface_lines links numbered = flat_map (λ e. interface_line (link_at links.rows e.0) (queue_at links.queues e.0) e) numbered
 
 -- ---- answers
 -- the line of an entry of a forwarding table, or `no route`
@@ -146,6 +159,6 @@ sums_text last entries counts lost heard = codes "now " ++ (decimal last ++ (cod
     ++ (10 ∷ (losses_text lost ++ (10 ∷ neighbors_text heard))))))))
 
 -- the answer to `status`: the lines of the interfaces, these sums, `asked N` with the Requests that were sent since routes were lost, and `ok`
-abbrev pub status_answer : List Interface → ℕ → ℕ → Counts → Losses → Neighbors → List ℕ
-status_answer interfaces last entries counts lost heard =
-    (interface_lines (enumerate_from 0 interfaces) ++ sums_text last entries counts lost heard) ++ asked_and_done counts.asked
+abbrev pub status_answer : List Interface → ℕ → ℕ → Counts → Losses → Neighbors → LinksSeen → List ℕ
+status_answer interfaces last entries counts lost heard links =
+    (interface_lines links (enumerate_from 0 interfaces) ++ sums_text last entries counts lost heard) ++ asked_and_done counts.asked

@@ -1,18 +1,21 @@
--- What the monitor of a run makes of reports: what is counted, in all and by sender, and which lines are written.
-use Rattle.std.specs.Prelude.{ℕ, ◌≡◌, ◌<◌, ◌+◌, ◌-◌, ◌/◌, ◌==◌, ◌&&◌, ◌||◌, ◌⊎◌, Bool, true, false, max, is_none, MatchBool, List, [], ◌∷◌, ◌++◌, Option, None, Some, if◌then◌else◌, length, nat_le, nat_lt, replicate, slice_get, slice_index_or, slice_set, vec_capacity, count_by}
+-- What the monitor of a run makes of reports: what is counted, in all, by interface and by sender, and which lines are written.
+use Rattle.std.specs.Prelude.{ℕ, ◌≡◌, ◌<◌, ◌+◌, ◌-◌, ◌/◌, ◌==◌, ◌&&◌, ◌||◌, ◌⊎◌, Bool, true, false, max, is_none, not, MatchBool, List, [], ◌∷◌, ◌++◌, Option, None, Some, if◌then◌else◌, length, nat_le, nat_lt, replicate, slice_get, slice_index_or, slice_set, vec_capacity, count_by}
 use Rattle.std.specs.List.{remove}
-use Rattle.ripngd_control.specs.Below.{Appends, position_or_len, is_response, fault_number, note_number, Note, Fault, counted, LinkReport, Processed, Sent, Arrived, Counts, Monitor, Neighbor, Neighbors, Refusals, Tally}
+use Rattle.ripngd_control.specs.Below.{Appends, position_or_len, is_response, fault_number, note_number, Note, Fault, counted, LinkReport, Processed, Begins, Sent, Update, Triggered, Regular, Arrived, Counts, Links, LinkTally, Monitor, Neighbor, Neighbors, Refusals, Tally}
+use Rattle.ripngd_control.specs.Links.{no_link, no_refusals, no_tally}
 use Rattle.ripngd_control.specs.Printed.{lines_of}
 
 -- ---- what is counted of a report
--- f of an arrival's fault and notes, and 0 for what was sent
+-- f of an arrival's fault and notes, and 0 for all else
 abbrev pub heard_in : (Option Fault → List Note → ℕ) → LinkReport → ℕ
 heard_in f (Processed a bytes fault notes) = f fault notes
+heard_in f (Begins update) = 0
 heard_in f (Sent s went) = 0
 
--- f of whether the link could send what was sent, and 0 for an arrival
+-- f of whether the link could send what was sent, and 0 for all else
 abbrev pub sent_in : (Bool → ℕ) → LinkReport → ℕ
 sent_in f (Processed a bytes fault notes) = 0
+sent_in f (Begins update) = 0
 sent_in f (Sent s went) = f went
 
 -- how many there are in all of them
@@ -30,10 +33,6 @@ abbrev pub notes_of : ℕ → List Note → ℕ
 notes_of number notes = count_by (λ n. note_number n.kind == number) notes
 
 -- ---- in all
--- nothing was refused
-abbrev pub no_refusals : Refusals
-no_refusals = record { by_number = replicate 27 0 }
-
 -- nothing was counted
 abbrev pub no_counts : Counts
 no_counts = record { arrivals = 0; sends = 0; failed_sends = 0; refusals = no_refusals; asked = 0 }
@@ -59,10 +58,6 @@ is_sound_response bytes (Some fault) = false
 -- the entries of a datagram: 20 bytes each, after the first 4
 abbrev pub rte_count : List ℕ → ℕ
 rte_count bytes = (length bytes - 4) / 20
-
--- nothing came
-abbrev pub no_tally : Tally
-no_tally = record { arrivals = 0; responses = 0; entries = 0; last = None; refusals = no_refusals }
 
 -- an arrival was counted, up to the greatest u64 each: what it is, its entries and its moment if it is a Response without a
 -- fault, its fault, and the notes on its entries
@@ -145,16 +140,58 @@ abbrev pub CountsOf : (Tally → Tally → Type 0) → Arrived → List Neighbor
 CountsOf Counts a rows v w =
     (vec_capacity w.rows ≡ vec_capacity v.rows) × CountsAt Counts (slice_get rows (place_of a rows)) (place_of a rows) rows v w
 
--- what a report makes of the rows: room for its sender's, if need be, and then it is counted. What is sent is of no sender
+-- what a report makes of the rows: room for its sender's, if need be, and then it is counted. Updates and what is sent are of no sender
 abbrev pub CountsReport : Neighbors → LinkReport → Neighbors → Type 0
 CountsReport v (Processed a bytes fault notes) w =
     (m : Neighbors) × MatchBool (lacks_room a v) (MakesRoom (is_sound_response bytes fault) v m) (m ≡ v)
     × CountsOf (λ c d. Tallied c a bytes fault notes d) a (with_row a (vec_capacity m.rows) m.rows.items) m w × (w.replaces ≡ v.replaces)
+CountsReport v (Begins update) w = w ≡ v
 CountsReport v (Sent s went) w = w ≡ v
+
+-- ---- by interface
+abbrev pub is_triggered : Update → Bool
+is_triggered Regular = false
+is_triggered Triggered = true
+
+-- the interface is this one
+abbrev pub is_at : Option ℕ → ℕ → Bool
+is_at None iface = false
+is_at (Some other) iface = other == iface
+
+-- a datagram that goes out on an interface is the first one there of a triggered update, whose datagrams come interface by interface
+abbrev pub is_first : Links → ℕ → Bool → Bool
+is_first v iface went = went && v.is_triggered && not (is_at v.counted_at iface)
+
+-- a row for each of so many interfaces, with nothing counted; and no update is sent
+pub record CountsNothing (interfaces : ℕ) (v : Links) : Type 0 where
+  pub rows : v.rows.items ≡ replicate interfaces no_link
+  pub none_sent : v.is_triggered ≡ false
+
+-- an arrival was counted in the row of its interface, if it has one
+abbrev pub CountsThere : (Tally → Tally → Type 0) → Option LinkTally → ℕ → List LinkTally → List LinkTally → Type 0
+CountsThere Counts (Some row) iface before after = (tally : Tally) × Counts row.tally tally × (after ≡ slice_set before iface (record row { tally = tally }))
+CountsThere Counts None iface before after = after ≡ before
+
+-- these rows, where one more triggered update went out on an interface
+abbrev pub with_update : Option LinkTally → ℕ → List LinkTally → List LinkTally
+with_update (Some row) iface rows = slice_set rows iface (record row { triggered = counted row.triggered 1 })
+with_update None iface rows = rows
+
+-- what a report makes of the counts of interfaces: an arrival is counted at its own, and what is sent after it is of no update; a triggered
+-- update is counted once at each interface where a datagram of it goes out
+abbrev pub CountsLink : Links → LinkReport → Links → Type 0
+CountsLink v (Processed a bytes fault notes) w =
+    CountsThere (λ c d. Tallied c a bytes fault notes d) (slice_get v.rows.items a.iface) a.iface v.rows.items w.rows.items
+    × (w.is_triggered ≡ false)
+CountsLink v (Begins update) w = (w.rows.items ≡ v.rows.items) × (w.is_triggered ≡ is_triggered update) × (w.counted_at ≡ None)
+CountsLink v (Sent s went) w = MatchBool (is_first v s.iface went)
+    ((w.rows.items ≡ with_update (slice_get v.rows.items s.iface) s.iface v.rows.items) × (w.is_triggered ≡ true) × (w.counted_at ≡ Some s.iface))
+    (w ≡ v)
 
 -- ---- what a report makes of a monitor: it is counted, and its lines are written, unless the monitor is muted
 pub record Monitors {W : Type 0} (text : W → Option (List ℕ)) (v : Monitor W) (t : LinkReport) (w : Monitor W) : Type 0 where
   pub counts : Counted v.counts (t ∷ []) w.counts
   pub neighbors : CountsReport v.neighbors t w.neighbors
+  pub links : CountsLink v.links t w.links
   pub stays_muted : v.is_muted ≡ true → (w.is_muted ≡ true) × (w.out ≡ v.out)
   pub gains : w.is_muted ≡ false → Appends (text v.out) (text w.out) (lines_of t)

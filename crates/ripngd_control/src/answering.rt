@@ -1,11 +1,12 @@
 //! What a running router does for a command, and its answer: at once, or in pieces.
 
 ghost use Rattle.std.specs.Prelude.{◌≡◌, ◌≢◌, ◌↔◌, ◌⊎◌, ◌++◌, ◌∷◌, IsOk, IsTrue, OnOk, Option, Some, false};
-ghost use Rattle.ripngd_control.specs.Common.{Appends, asked_and_done, enumerate_from, NamesInterface, seen, Entry, IsLookedUp, AnswersCommand, Continues, GainsLines, Obeys, step_reply, interface_lines, lookup_text, reply_line, status_answer, sums_text, PeerChange};
+ghost use Rattle.ripngd_control.specs.Common.{Appends, asked_and_done, enumerate_from, NamesInterface, seen, Entry, IsLookedUp, AnswersCommand, Continues, GainsLines, Obeys, step_reply, interface_line, links_seen, lookup_text, reply_line, status_answer, sums_text, PeerChange};
 ghost use Rattle.std.specs.FinMap as map_of;
 
 use crate::command::{Command, Destination};
 use crate::counts::Losses;
+use crate::links::LinkStatus;
 use crate::monitor::Monitor;
 use crate::pieces::{write_routes, write_table};
 use crate::reply::{Peering, Reply};
@@ -106,31 +107,46 @@ fn write_sums<S: RouteStore, E, W: Write>(
     )
 }
 
-/// Writes `interface I address ADDR cost C mtu M` for each interface, the sums, `asked N`, and `ok`.
-fn write_status<S: RouteStore, E, W: Write>(
-    router: &Router<S>,
-    fib: &Fib,
+/// Writes `interface I address ADDR cost C mtu M triggered T queued Q answers A`, what came there, and after it, on lines of their own,
+/// what was refused of that.
+fn write_interface<W: Write>(
+    number: usize,
+    interface: &Interface,
+    status: LinkStatus,
+    out: &mut W,
+) -> io::Result<()>
+    ensures { OnOk result (Appends (W.contents out.old) (W.contents out.new) (interface_line status.0 status.1 (number, interface.now))) }
+{
+    let Interface {
+        addr,
+        cost,
+        mtu,
+        ..
+    } = *interface;
+    writeln!(
+        out,
+        "interface {number} address {addr} cost {cost} mtu {mtu}{status}"
+    )
+}
+
+/// Writes the lines of each interface, the sums, `asked N`, and `ok`.
+fn write_status<S: RouteStore, L: Link, C: TimeSource, R: Rng + Drop, E, W: Write>(
+    engine: &Engine<S, L, C, R>,
     monitor: &Monitor<E>,
     lost: Losses,
     out: &mut W,
 ) -> io::Result<()>
     ensures { OnOk result (Appends (W.contents out.old) (W.contents out.new)
-        (status_answer router.now.config.interfaces router.now.last (map_of.len fib.now) monitor.now.counts lost monitor.now.neighbors)) }
+        (status_answer engine.now.router.config.interfaces engine.now.router.last (map_of.len engine.now.fib) monitor.now.counts lost
+        monitor.now.neighbors (links_seen monitor.now.links engine.now.queues))) }
 {
+    let router = engine.router();
     let interfaces = router.config().interfaces();
     for (number, interface) in interfaces.iter().enumerate() {
-        let Interface {
-            addr,
-            cost,
-            mtu,
-            ..
-        } = *interface;
-        writeln!(
-            out,
-            "interface {number} address {addr} cost {cost} mtu {mtu}"
-        )?;
+        let status = LinkStatus(monitor.link_at(number), engine.queue_at(number));
+        write_interface(number, interface, status, out)?;
     }
-    write_sums(router, fib, monitor, lost, out)?;
+    write_sums(router, engine.fib(), monitor, lost, out)?;
     write_asked(monitor.asked(), out)
 }
 
@@ -211,8 +227,8 @@ pub(crate) fn respond<
     out: &mut O,
 ) -> (Rest, RunState)
     requires { engine.old.ended ≡ false }
-    ensures answers { AnswersCommand command monitor.now.counts monitor.now.neighbors lost (seen R.stream W.contents engine.old log.old)
-        (O.contents out.old) result.0 (seen R.stream W.contents engine.new log.new) (O.contents out.new) }
+    ensures answers { AnswersCommand command monitor.now.counts monitor.now.neighbors (links_seen monitor.now.links engine.old.queues) lost
+        (seen R.stream W.contents engine.old log.old) (O.contents out.old) result.0 (seen R.stream W.contents engine.new log.new) (O.contents out.new) }
     ensures goes_on { result.1 ≢ RunState.Ended → engine.new.ended ≡ false }
     ensures stops { result.1 ≡ RunState.Stopped → (command ≡ Some Command.Stop) ⊎ (command ≡ Some Command.StopNow) }
     ensures ends { (command ≡ Some Command.Stop) ⊎ (command ≡ Some Command.StopNow) → result.1 ≢ RunState.Running }
@@ -237,11 +253,11 @@ pub(crate) fn respond<
             (all_of(writeln!(out, "{neighbors}ok")), RunState::Running)
         }
         Some(Command::Status) => {
-            let written = write_status(engine.router(), engine.fib(), monitor, lost, out);
+            let written = write_status(engine, monitor, lost, out);
             (all_of(written), RunState::Running)
         }
         Some(Command::StatusJson) => {
-            let written = write_status_json(engine.router(), engine.fib(), monitor, lost, out);
+            let written = write_status_json(engine, monitor, lost, out);
             (all_of(written), RunState::Running)
         }
         Some(Command::StopNow) => (write_reply(Reply::Done, out), RunState::Stopped),

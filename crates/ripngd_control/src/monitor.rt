@@ -1,14 +1,15 @@
 //! The observer of a run: it counts datagrams, and writes a line for each refused datagram and each skipped entry.
 
-ghost use Rattle.std.specs.Prelude.{◌≡◌, ◌++◌, OnOk, Some};
-ghost use Rattle.ripngd_control.specs.Common.{counted, Appends, arrival_text, note_lines, refusal_lines, KnowsNobody, Monitors, no_counts};
+ghost use Rattle.std.specs.Prelude.{◌≡◌, ◌++◌, IfOk, OnOk, Some};
+ghost use Rattle.ripngd_control.specs.Common.{counted, Appends, arrival_text, note_lines, refusal_lines, CountsNothing, KnowsNobody, Monitors, link_at, no_counts};
 
 use crate::counts::Counts;
+use crate::links::{LinkTally, Links};
 use crate::neighbors::Neighbors;
 use crate::refusals::Refusal;
-use ripngd_engine::{Arrived, TrafficObserver};
+use ripngd_engine::{Arrived, TrafficObserver, Update};
 use router_core::{Fault, Note, Outgoing};
-use std::alloc::Global;
+use std::alloc::{AllocError, Global};
 use std::fmt::{self, Display};
 use std::io::{self, Write};
 
@@ -51,33 +52,47 @@ fn write_lines<W: Write>(
     Ok(())
 }
 
-/// An observer that counts, in all and by neighbor, and writes lines unless it is muted. The first write that fails ends the lines,
+/// An observer that counts, in all, by neighbor and by interface, and writes lines unless it is muted. The first write that fails ends the lines,
 /// perhaps within one, and changes nothing else.
 #[derive(Drop)]
 pub struct Monitor<W> {
     counts: Counts,
     neighbors: Neighbors,
+    links: Links,
     out: W,
     is_muted: bool,
 }
 
-impl<W> Monitor<W> {
-    /// A monitor with all counts at 0. If `is_muted`, it never writes a line to `out`. `replaces` says whether the row of a sender that
-    /// has been silent gives way to a new one, as it is on real links, where there is no room for another.
-    pub fn new(alloc: Global, out: W, is_muted: bool, replaces: bool) -> Monitor<W>
-        ensures counts { result.counts ≡ no_counts }
-        ensures neighbors { KnowsNobody result.neighbors }
-        ensures replaces { result.neighbors.replaces ≡ replaces }
-        ensures lines { (result.out ≡ out) × (result.is_muted ≡ is_muted) }
+impl<W: Drop> Monitor<W> {
+    /// A monitor of so many interfaces, with all counts at 0. If `is_muted`, it never writes a line to `out`. `replaces` says whether the
+    /// row of a sender that has been silent gives way to a new one, as it is on real links, where there is no room for another.
+    ///
+    /// # Errors
+    /// Out of memory.
+    pub fn new(
+        alloc: Global,
+        out: W,
+        is_muted: bool,
+        replaces: bool,
+        interfaces: usize,
+    ) -> Result<Monitor<W>, AllocError>
+        ensures counts { IfOk result (λ m. m.counts ≡ no_counts) }
+        ensures neighbors { IfOk result (λ m. KnowsNobody m.neighbors) }
+        ensures replaces { IfOk result (λ m. m.neighbors.replaces ≡ replaces) }
+        ensures links { IfOk result (λ m. CountsNothing interfaces m.links) }
+        ensures lines { IfOk result (λ m. (m.out ≡ out) × (m.is_muted ≡ is_muted)) }
     {
-        Monitor {
+        Ok(Monitor {
             counts: Counts::new(),
             neighbors: Neighbors::new(alloc, replaces),
+            links: Links::new(alloc, interfaces)?,
             out,
             is_muted,
-        }
+        })
     }
+}
 
+impl<W> Monitor<W> {
     /// The counts of all datagrams.
     pub fn counts(&self) -> Counts
         ensures { result ≡ self.now.counts }
@@ -98,6 +113,13 @@ impl<W> Monitor<W> {
     {
         &self.neighbors
     }
+
+    /// What is counted at an interface.
+    pub fn link_at(&self, iface: usize) -> LinkTally
+        ensures { result ≡ link_at self.now.links.rows.items iface }
+    {
+        self.links.at(iface)
+    }
 }
 
 impl<W: Write> Monitor<W> {
@@ -105,6 +127,7 @@ impl<W: Write> Monitor<W> {
     pub fn say(&mut self, line: &str)
         ensures counts { self.new.counts ≡ self.old.counts }
         ensures neighbors { self.new.neighbors ≡ self.old.neighbors }
+        ensures links { self.new.links ≡ self.old.links }
         ensures muted { self.new.is_muted ≡ self.old.is_muted }
     {
         let _ = writeln!(self.out, "ripngd: {line}");
@@ -132,12 +155,18 @@ impl<W: Write> TrafficObserver for Monitor<W> {
     fn processed(&mut self, arrived: Arrived, bytes: &[u8], fault: Option<Fault>, notes: &[Note]) {
         self.counts.count_arrival(fault, notes);
         self.neighbors.count(&arrived, bytes, fault, notes);
+        self.links.count(&arrived, bytes, fault, notes);
         if !self.is_muted {
             self.is_muted = write_lines(arrived, fault, notes, &mut self.out).is_err();
         }
     }
 
-    fn sent(&mut self, _outgoing: &Outgoing, went: bool) {
+    fn begins(&mut self, update: Update) {
+        self.links.begin(update);
+    }
+
+    fn sent(&mut self, outgoing: &Outgoing, went: bool) {
         self.counts.count_send(went);
+        self.links.count_send(outgoing, went);
     }
 }

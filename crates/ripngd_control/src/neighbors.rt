@@ -85,7 +85,13 @@ impl Tally {
     }
 
     /// Counts an arrival, with its fault or its notes. A Response has 4 bytes, and then 20 for each entry.
-    fn count(&mut self, arrived: &Arrived, bytes: &[u8], fault: Option<Fault>, notes: &[Note])
+    pub(crate) fn count(
+        &mut self,
+        arrived: &Arrived,
+        bytes: &[u8],
+        fault: Option<Fault>,
+        notes: &[Note],
+    )
         ensures { Tallied self.old arrived.now bytes.now fault notes.now self.new }
     {
         self.arrivals = self.arrivals.saturating_add(1);

@@ -2,17 +2,19 @@
 
 ghost use Rattle.std.specs.Prelude.{◌≡◌, IfSome, OnOk};
 ghost use Rattle.std.specs.FinMap as map_of;
-ghost use Rattle.ripngd_control.specs.Common.{Appends, Grows, ago_json, enumerate_from, json_tokens, link_json, list_of, members_of, members_tokens, neighbor_json, refused_json, router_json, rows_at, status_json, status_json_answer, tally_members, text_of};
+ghost use Rattle.ripngd_control.specs.Common.{Appends, Grows, ago_json, counted_link_json, enumerate_from, json_tokens, link_json, links_seen, list_of, members_of, members_tokens, neighbor_json, refused_json, router_json, rows_at, status_json, status_json_answer, tally_members, text_of};
 
 use crate::counts::{Counts, Losses};
 use crate::json_text::JsonText;
+use crate::links::LinkTally;
 use crate::monitor::Monitor;
 use crate::neighbors::{Neighbor, Tally};
 use crate::refusals::{REFUSALS, Refusals};
-use fib::Fib;
 use json::Token;
+use rand_core::Rng;
+use ripngd_engine::{Engine, Link, Queue, TimeSource};
 use route_table::RouteStore;
-use router_core::{Interface, Router};
+use router_core::Interface;
 use std::alloc::AllocError;
 use std::io::{self, Write};
 
@@ -73,27 +75,48 @@ fn write_neighbors(now: u64, iface: usize, rows: &[Neighbor], text: &mut JsonTex
     text.token(Token::EndArray);
 }
 
-/// Writes an interface and its neighbors.
-fn write_link(now: u64, number: usize, interface: Interface, rows: &[Neighbor], text: &mut JsonText)
-    ensures { Grows text.old text.new (json_tokens (link_json now rows.now (number, interface))) }
+/// Writes an interface, what is counted there and what waits there, its neighbors, and what came of all that sent there.
+fn write_link(
+    now: u64,
+    number: usize,
+    interface: Interface,
+    counted: &LinkTally,
+    queue: Queue,
+    rows: &[Neighbor],
+    text: &mut JsonText,
+)
+    ensures { Grows text.old text.new (json_tokens (counted_link_json now rows.now counted.now queue (number, interface))) }
 {
     text.token(Token::BeginObject);
     text.count("interface", number as u64);
     text.printed("address", &interface.addr);
     text.count("cost", u64::from(interface.cost));
     text.count("mtu", u64::from(interface.mtu));
+    text.count("triggered_updates", counted.triggered);
+    text.count("queued", queue.waiting as u64);
+    text.count("queued_answers", queue.answers as u64);
     text.token(Token::Key("neighbors"));
     write_neighbors(now, number, rows, text);
-    text.token(Token::EndObject);
+    write_tally(now, &counted.tally, text);
 }
 
 /// Writes all interfaces.
-fn write_links(now: u64, interfaces: &[Interface], rows: &[Neighbor], text: &mut JsonText)
-    ensures { Grows text.old text.new (json_tokens (list_of (link_json now rows.now) (enumerate_from 0 interfaces.now))) }
+fn write_links<S: RouteStore, L: Link, C: TimeSource, R: Rng + Drop, E>(
+    engine: &Engine<S, L, C, R>,
+    monitor: &Monitor<E>,
+    now: u64,
+    interfaces: &[Interface],
+    rows: &[Neighbor],
+    text: &mut JsonText,
+)
+    ensures { Grows text.old text.new (json_tokens (list_of (link_json now rows.now (links_seen monitor.now.links engine.now.queues))
+        (enumerate_from 0 interfaces.now))) }
 {
     text.token(Token::BeginArray);
     for (number, interface) in interfaces.iter().enumerate() {
-        write_link(now, number, *interface, rows, text);
+        let counted = monitor.link_at(number);
+        let queue = engine.queue_at(number);
+        write_link(now, number, *interface, &counted, queue, rows, text);
     }
     text.token(Token::EndArray);
 }
@@ -121,24 +144,31 @@ fn write_router(now: u64, routes: usize, counts: &Counts, lost: Losses, text: &m
 }
 
 /// The text of all that is known, or `None` if there is no memory for it.
-fn text_of_status<S: RouteStore, E>(
-    router: &Router<S>,
-    fib: &Fib,
+fn text_of_status<S: RouteStore, L: Link, C: TimeSource, R: Rng + Drop, E>(
+    engine: &Engine<S, L, C, R>,
     monitor: &Monitor<E>,
     lost: Losses,
 ) -> Option<Vec<u8>>
-    ensures { IfSome result (λ text. text.items ≡ text_of (status_json router.now.config.interfaces router.now.last (map_of.len fib.now)
-        monitor.now.counts lost monitor.now.neighbors)) }
+    ensures { IfSome result (λ text. text.items ≡ text_of (status_json engine.now.router.config.interfaces engine.now.router.last
+        (map_of.len engine.now.fib) monitor.now.counts lost monitor.now.neighbors (links_seen monitor.now.links engine.now.queues))) }
 {
+    let router = engine.router();
     let neighbors = monitor.neighbors();
     let now = router.last().ms();
     let mut text = JsonText::new(neighbors.alloc());
     text.token(Token::BeginObject);
     text.token(Token::Key("router"));
-    write_router(now, fib.len(), &monitor.counts(), lost, &mut text);
+    write_router(now, engine.fib().len(), &monitor.counts(), lost, &mut text);
     text.token(Token::Key("links"));
     let interfaces = router.config().interfaces();
-    write_links(now, interfaces, neighbors.rows(), &mut text);
+    write_links(
+        engine,
+        monitor,
+        now,
+        interfaces,
+        neighbors.rows(),
+        &mut text,
+    );
     text.token(Token::Key("others"));
     text.token(Token::BeginObject);
     write_tally(now, &neighbors.others(), &mut text);
@@ -150,17 +180,17 @@ fn text_of_status<S: RouteStore, E>(
 ///
 /// # Errors
 /// Out of memory, or the error of `out`.
-pub(crate) fn write_status_json<S: RouteStore, E, W: Write>(
-    router: &Router<S>,
-    fib: &Fib,
+pub(crate) fn write_status_json<S: RouteStore, L: Link, C: TimeSource, R: Rng + Drop, E, W: Write>(
+    engine: &Engine<S, L, C, R>,
     monitor: &Monitor<E>,
     lost: Losses,
     out: &mut W,
 ) -> io::Result<()>
     ensures { OnOk result (Appends (W.contents out.old) (W.contents out.new)
-        (status_json_answer router.now.config.interfaces router.now.last (map_of.len fib.now) monitor.now.counts lost monitor.now.neighbors)) }
+        (status_json_answer engine.now.router.config.interfaces engine.now.router.last (map_of.len engine.now.fib) monitor.now.counts lost
+        monitor.now.neighbors (links_seen monitor.now.links engine.now.queues))) }
 {
-    let Some(text) = text_of_status(router, fib, monitor, lost) else {
+    let Some(text) = text_of_status(engine, monitor, lost) else {
         return Err(io::Error::from(AllocError));
     };
     out.write_all(text.as_slice())?;

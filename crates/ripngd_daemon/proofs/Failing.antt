@@ -6,8 +6,8 @@ use Rattle.std.proofs.lemmas.Bool.{false≢true}
 use Rattle.ripngd_config.specs.Configuration.{RefusesConfig}
 use Rattle.ripngd_config.specs.declared.fault.ConfigFault.{ConfigFault}
 use Rattle.ripngd_config.specs.declared.fault.ConfigFault.TheVariants as config_faults
-use Rattle.ripngd_show.specs.declared.print_fault.PrintFault.{PrintFault}
-use Rattle.ripngd_show.specs.declared.print_fault.PrintFault.TheVariants as printing
+use Rattle.ripng_show.specs.declared.print_fault.PrintFault.{PrintFault}
+use Rattle.ripng_show.specs.declared.print_fault.PrintFault.TheVariants as printing
 use Rattle.ripngd_udp.specs.declared.udp.UdpError.{UdpError}
 use Rattle.ripngd_udp.specs.declared.udp.UdpError.TheVariants as link
 use Rattle.ripngd_command_line.specs.declared.asked.Ask.{Ask}

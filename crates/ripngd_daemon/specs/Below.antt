@@ -37,8 +37,8 @@ pub use Rattle.ripngd_engine.specs.declared.peer.Place.{Place}
 pub use Rattle.ripngd_engine.specs.declared.peer.Socket.{Socket}
 pub use Rattle.ripngd_engine.specs.declared.report.EngineFault.{EngineFault}
 pub use Rattle.ripngd_engine.specs.declared.report.Report.{Report}
-pub use Rattle.ripngd_show.specs.Shown.{newline}
-pub use Rattle.ripngd_show.specs.declared.print_fault.PrintFault.{PrintFault}
+pub use Rattle.ripng_show.specs.Shown.{newline}
+pub use Rattle.ripng_show.specs.declared.print_fault.PrintFault.{PrintFault}
 pub use Rattle.ripngd_udp.specs.Peers.{OnLink, links_at}
 pub use Rattle.ripngd_udp.specs.declared.udp.BindCause.{BindCause}
 pub use Rattle.ripngd_udp.specs.declared.udp.UdpError.{UdpError}

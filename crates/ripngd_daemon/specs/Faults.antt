@@ -3,7 +3,7 @@ use Rattle.ripngd_daemon.specs.Below.{Failure, UdpError, EngineFault, PrintFault
 use Rattle.ripngd_daemon.specs.declared.failure.Failure.TheVariants as failures
 use Rattle.ripngd_udp.specs.declared.udp.UdpError.TheVariants as link
 use Rattle.ripngd_engine.specs.declared.report.EngineFault.TheVariants as engine
-use Rattle.ripngd_show.specs.declared.print_fault.PrintFault.TheVariants as faults
+use Rattle.ripng_show.specs.declared.print_fault.PrintFault.TheVariants as faults
 
 -- what a fault of what prints is to the program
 abbrev pub failure_of : PrintFault → Failure

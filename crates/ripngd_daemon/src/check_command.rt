@@ -7,9 +7,9 @@ ghost use Rattle.ripngd_command_line.specs.declared.asked.Ask.TheVariants as ask
 use crate::failure::Failure;
 use crate::files::FileSource;
 use crate::warnings::write_warnings;
+use ripng_show::PrintFault;
 use ripngd_config::{ConfigFault, read_config};
 use ripngd_engine::Peer;
-use ripngd_show::PrintFault;
 use std::alloc::Global;
 use std::io::{self, Write};
 

@@ -3,9 +3,9 @@
 ghost use Rattle.std.specs.Prelude.{◌≡◌, ◌≢◌, ◌⊎◌, ◌↔◌, OnOk, Some};
 ghost use Rattle.ripngd_daemon.specs.Common.{Appends, error_kind, failure_of, failure_of_engine, failure_of_link, cause_text, failure_line, failure_text, file_cause_text, socket_text, why_text};
 
+use ripng_show::PrintFault;
 use ripngd_control::ListenFault;
 use ripngd_engine::{EngineFault, Socket};
-use ripngd_show::PrintFault;
 use ripngd_udp::{BindCause, UdpError};
 use std::fmt::{self, Display};
 use std::io::{self, ErrorKind, Write};

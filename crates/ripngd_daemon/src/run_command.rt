@@ -183,7 +183,10 @@ fn run_ready<'r, 'a, R: System, O: Write, E: Write>(
     let interfaces = ready.router.interfaces().len();
     let plural = if interfaces == 1 { "" } else { "s" };
     let _ = writeln!(err, "ripngd: running, {interfaces} interface{plural}");
-    let mut monitor = Monitor::new(rt.alloc(), err, !order.debug, ready.is_real);
+    let Ok(mut monitor) = Monitor::new(rt.alloc(), err, !order.debug, ready.is_real, interfaces)
+    else {
+        return Err(Failure::OutOfMemory);
+    };
     let clock = Uptime::new(rt);
     let mut engine: UdpEngine<'r, R> = Engine::start(
         rt.alloc(),

@@ -7,8 +7,8 @@ ghost use Rattle.ripngd_command_line.specs.declared.asked.Ask.TheVariants as ask
 use crate::failure::Failure;
 use crate::files::FileSource;
 use crate::reading::{LogFault, read_log};
+use ripng_show::PrintFault;
 use ripngd_engine::write_entries;
-use ripngd_show::PrintFault;
 use std::alloc::Global;
 use std::io::Write;
 

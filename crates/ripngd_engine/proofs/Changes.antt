@@ -7,7 +7,7 @@ use Rattle.router_core.specs.declared.answer.Answer.{Answer}
 use Rattle.router_core.specs.declared.reconfiguring.Change.{Change}
 use Rattle.ripngd_engine.specs.Telling.{Gains}
 use Rattle.ripngd_engine.specs.Observer.{LinkReport}
-use Rattle.ripngd_engine.specs.Run.{Moved, arrival_told, one_moment}
+use Rattle.ripngd_engine.specs.Run.{Moved, told_first, one_moment}
 use Rattle.ripngd_engine.specs.Outlet.{OutletSeen, CarriesOut}
 use Rattle.ripngd_engine.specs.Seen.{Acts}
 use Rattle.ripngd_engine.specs.Changing.{ReconfiguresOnce, ReconfiguresNothing, ShutsDownOnce, LinkGoesDownOnce, LinkComesUpOnce}
@@ -16,7 +16,7 @@ use Rattle.ripngd_engine.proofs.Steps.{around, carried, Carries-out, Shows-carri
 
 module _ (o : OutletSeen) (router new_router : State) (lost : ℕ) (stream : Stream) (before after : Option (List ℕ)) (now : ℕ) (told : Gains before after (now ∷ [])) where
   -- any step that is told of by its datagrams alone
-  Acts-moved : {V : Type 0} (takes : V → LinkReport → V → Type 0) (v w : V) (p : OutletSeen) (answer : Answer) (happening : Happening) → arrival_told happening answer ≡ []
+  Acts-moved : {V : Type 0} (takes : V → LinkReport → V → Type 0) (v w : V) (p : OutletSeen) (answer : Answer) (happening : Happening) → told_first router happening answer ≡ []
       → Moves router happening answer new_router → CarriesOut takes v w o answer p
       → Acts (λ m t n. Moved m happening now t n) (around o router lost stream before) (around p new_router lost stream after)
   Acts-moved takes v w p answer happening untold moves out = record {

@@ -17,7 +17,7 @@ use Rattle.ripngd_engine.specs.Telling.{Gains}
 use Rattle.ripngd_engine.specs.Observer.{LinkReport, WasTold}
 use Rattle.ripngd_engine.specs.Log.{change_text, log_of}
 use Rattle.ripngd_engine.specs.Link.{Call, Gave, Silent, RecvFailed, Handed, Datagram, failed_sends, gave_call}
-use Rattle.ripngd_engine.specs.Run.{Machine, Trace, Sends, MovedOrLost, Carries, FollowsUnless, TakesArrival, TakesIn, TicksOnce, TicksUnless, Turn, Turns, arrival, handed, arrival_told, sent, one_call, one_moment, no_step, followed_by, all_joined, counted}
+use Rattle.ripngd_engine.specs.Run.{Machine, Trace, Sends, MovedOrLost, Carries, FollowsUnless, TakesArrival, TakesIn, TicksOnce, TicksUnless, Turn, Turns, arrival, handed, told_first, sent, one_call, one_moment, no_step, followed_by, all_joined, counted}
 use Rattle.ripngd_engine.specs.Outlet.{OutletSeen, CarriesOut}
 use Rattle.ripngd_engine.specs.Seen.{Seen, Outside, Shows, Acts, Started, Listens, Ran, TurnsObserved, untouched}
 use Rattle.ripngd_engine.specs.declared.report.EngineFault.TheVariants.{LinkFault, OutOfMemory}
@@ -103,21 +103,21 @@ module _ {V : Type 0} (takes : V → LinkReport → V → Type 0) (v w : V) (o p
 
 module _ {V : Type 0} (takes : V → LinkReport → V → Type 0) (o : OutletSeen) (router : State) (lost : ℕ) (stream new_stream : Stream) (before after : Option (List ℕ)) (now : ℕ) (happening : Happening) (told : Gains before after (now ∷ [])) where
   pub Acts-moved : (u v w : V) (p : OutletSeen) (answer : Answer) (new_router : State) → Moves router happening answer new_router
-      → WasTold takes u (arrival_told happening answer) v → CarriesOut takes v w o answer p
+      → WasTold takes u (told_first router happening answer) v → CarriesOut takes v w o answer p
       → ActsTold takes u w (WithStream new_stream happening now) (around o router lost stream before) (around p new_router lost new_stream after)
   Acts-moved u v w p answer new_router moves hears out = record {
     acts = record {
-      trace = carried (arrival_told happening answer) now answer out.hands.sends;
+      trace = carried (told_first router happening answer) now answer out.hands.sends;
       does = inl (record {
         answer = answer;
         moves = moves;
-        carries = Carries-out takes v w o p answer out (arrival_told happening answer) now _ refl refl;
+        carries = Carries-out takes v w o p answer out (told_first router happening answer) now _ refl refl;
         lost_memory = refl;
         stream = refl;
       });
-      shows = Shows-carried takes v w o p answer out (arrival_told happening answer) lost lost router new_router stream new_stream before after now told;
+      shows = Shows-carried takes v w o p answer out (told_first router happening answer) lost lost router new_router stream new_stream before after now told;
     };
-    told = WasTold-append takes u (arrival_told happening answer) v (sent out.hands.sends) w hears out.hands.told;
+    told = WasTold-append takes u (told_first router happening answer) v (sent out.hands.sends) w hears out.hands.told;
   }
 
   pub Acts-lost : (v : V) (new_router : State) (new_lost : ℕ) → new_router ≡ router → new_lost ≡ counted lost 1

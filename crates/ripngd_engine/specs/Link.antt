@@ -1,7 +1,16 @@
 -- The calls of a link.
-use Rattle.std.specs.Prelude.{ℕ, ◌+◌, List, [], ◌∷◌, Option, None, Some, Result, Ok, Err, Bool, if◌then◌else◌, take}
+use Rattle.std.specs.Prelude.{ℕ, ◌+◌, List, [], ◌∷◌, Option, None, Some, Result, Ok, Err, Bool, if◌then◌else◌, take, slice_get, unwrap_or}
 use Rattle.router_core.specs.declared.answer.Outgoing.{Outgoing}
+use Rattle.ripngd_engine.specs.declared.link.Queue.{Queue}
 use Rattle.ripngd_engine.specs.declared.link.Received.{Received}
+
+-- nothing waits to be sent
+abbrev pub no_queue : Queue
+no_queue = record { waiting = 0; answers = 0 }
+
+-- what waits on an interface, of what waits on each
+abbrev pub queue_at : List Queue → ℕ → Queue
+queue_at queues iface = unwrap_or (slice_get queues iface) no_queue
 
 -- a datagram that a link gave
 pub record Datagram : Type 0 where

@@ -1,17 +1,18 @@
 -- A run of an engine: a start, and then one turn after another.
-use Rattle.std.specs.Prelude.{ℕ, ◌≡◌, ◌+◌, ◌-◌, ◌^◌, ◌++◌, min, max, List, [], ◌∷◌, Bool, false, MatchBool, map, ◌⊎◌}
+use Rattle.std.specs.Prelude.{ℕ, ◌≡◌, ◌+◌, ◌-◌, ◌^◌, ◌++◌, min, max, List, [], ◌∷◌, Bool, false, MatchBool, map, ◌⊎◌, if◌then◌else◌}
 use Rattle.std.specs.FinMap as map_of
 use Rattle.rand_core.specs.Stream.{Stream, next_u32}
 use Rattle.fib.specs.Forwarding.{Forwarding, Replays}
 use Rattle.fib.specs.declared.change.RouteChange.{RouteChange}
 use Rattle.router_core.specs.Config.{Config}
-use Rattle.router_core.specs.Machine.{State, Happening, Arrives, Ticks, Restarts, Reconfigures, ShutsDown, LinkGoesDown, LinkComesUp, Moves, Starts}
+use Rattle.router_core.specs.Machine.{State, Happening, Arrives, Ticks, Restarts, Reconfigures, ShutsDown, LinkGoesDown, LinkComesUp, Moves, Starts, is_regular_due}
 use Rattle.router_core.specs.Received.{Received}
 use Rattle.router_core.specs.declared.answer.Answer.{Answer}
 use Rattle.router_core.specs.declared.answer.Outgoing.{Outgoing}
 use Rattle.ripngd_engine.specs.Link.{Datagram, Call, Gave, Silent, RecvFailed, Handed}
-use Rattle.ripngd_engine.specs.Observer.{LinkReport, Processed, Sent}
+use Rattle.ripngd_engine.specs.Observer.{LinkReport, Processed, Begins, Sent}
 use Rattle.ripngd_engine.specs.declared.observer.Arrived.{Arrived}
+use Rattle.ripngd_engine.specs.declared.observer.Update.TheVariants.{Regular, Triggered}
 
 -- what the turns of an engine go on from
 pub record Machine : Type 0 where
@@ -76,15 +77,21 @@ sent sends = map (λ s. Sent s.0 s.1) sends
 abbrev pub arrived : Received → Arrived
 arrived x = record { moment = x.now; iface = x.iface; source = x.source; source_port = x.source_port }
 
--- what an observer is notified of before an answer is carried out: an arrival and its bytes, with its fault and its notes
-abbrev pub arrival_told : Happening → Answer → List LinkReport
-arrival_told (Arrives x) answer = Processed (arrived x) x.bytes answer.fault answer.notes ∷ []
-arrival_told (Ticks now word) answer = []
-arrival_told (Restarts now) answer = []
-arrival_told (Reconfigures now c) answer = []
-arrival_told (ShutsDown now) answer = []
-arrival_told (LinkGoesDown now iface) answer = []
-arrival_told (LinkComesUp now iface) answer = []
+-- of which kind an update is that a tick sends, if it sends one
+abbrev pub begun : Bool → List Outgoing → List LinkReport
+begun is_regular [] = []
+begun is_regular (o ∷ os) = Begins (if is_regular then Regular else Triggered) ∷ []
+
+-- what an observer is notified of before an answer is carried out: an arrival and its bytes, with its fault and its notes; and of a
+-- tick which update it sends, a regular one or a triggered one (RFC 2080, 2.3 and 2.5.1)
+abbrev pub told_first : State → Happening → Answer → List LinkReport
+told_first s (Arrives x) answer = Processed (arrived x) x.bytes answer.fault answer.notes ∷ []
+told_first s (Ticks now word) answer = begun (is_regular_due s (max s.last now)) answer.sends
+told_first s (Restarts now) answer = []
+told_first s (Reconfigures now c) answer = []
+told_first s (ShutsDown now) answer = []
+told_first s (LinkGoesDown now iface) answer = []
+told_first s (LinkComesUp now iface) answer = []
 
 -- the count after some more; it stays at the greatest u64
 abbrev pub counted : ℕ → ℕ → ℕ
@@ -106,7 +113,7 @@ pub record Carries (first : List LinkReport) (now : ℕ) (answer : Answer) (old 
 pub record Moved (m : Machine) (happening : Happening) (now : ℕ) (t : Trace) (n : Machine) : Type 0 where
   pub answer : Answer
   pub moves : Moves m.router happening answer n.router
-  pub carries : Carries (arrival_told happening answer) now answer m.fib t n
+  pub carries : Carries (told_first m.router happening answer) now answer m.fib t n
   pub lost_memory : n.lost_memory ≡ m.lost_memory
   pub stream : n.stream ≡ m.stream
 

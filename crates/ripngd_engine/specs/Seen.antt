@@ -10,6 +10,7 @@ use Rattle.ripngd_engine.specs.Link.{Call, RecvFailed, failed_sends}
 use Rattle.ripngd_engine.specs.Log.{log_of}
 use Rattle.ripngd_engine.specs.Observer.{LinkReport, WasTold}
 use Rattle.ripngd_engine.specs.Run.{Machine, Trace, ComesUp, Turns, all_joined, counted}
+use Rattle.ripngd_engine.specs.declared.link.Queue.{Queue}
 use Rattle.ripngd_engine.specs.declared.report.EngineFault.{EngineFault}
 use Rattle.ripngd_engine.specs.declared.report.EngineFault.TheVariants.{LinkFault, OutOfMemory}
 
@@ -21,6 +22,7 @@ pub record Held (R : Type 0) : Type 0 where
   pub lost_memory : ℕ
   pub rng : R
   pub calls : Option (List Call)  -- what its link tells
+  pub queues : List Queue  -- what waits to be sent on each interface
   pub moments : Option (List ℕ)  -- what its clock tells
   pub lost_sends : ℕ
   pub log_failed : Bool

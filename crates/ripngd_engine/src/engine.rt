@@ -1,11 +1,11 @@
 //! The engine: a router that runs over a link, turn after turn.
 
 ghost use Rattle.std.specs.Prelude.{◌≡◌, true, false, Err, IfOk, OnErr, length};
-ghost use Rattle.ripngd_engine.specs.Common.{forwards, NamesInterface, ShutsDownOnce, LinkComesUpOnce, LinkGoesDownOnce, ReconfigureAnswer, StepAnswer, codes, coded_table, Held, seen, untouched, Started, TurnsAnswer, TurnsObserved};
+ghost use Rattle.ripngd_engine.specs.Common.{forwards, queue_at, NamesInterface, ShutsDownOnce, LinkComesUpOnce, LinkGoesDownOnce, ReconfigureAnswer, StepAnswer, codes, coded_table, Held, seen, untouched, Started, TurnsAnswer, TurnsObserved};
 ghost use Rattle.fib.specs.contracts.fib.Fib as forwarding;
 
 use crate::clock::TimeSource;
-use crate::link::{Link, LinkChange};
+use crate::link::{Link, LinkChange, Queue};
 use crate::observer::{NoObserver, TrafficObserver};
 use crate::outlet::Outlet;
 use crate::report::{ChangeFault, EngineFault, Report};
@@ -40,6 +40,7 @@ impl<S: RouteStore, L: Link, C: TimeSource, R: Rng + Drop> Model for Engine<S, L
       lost_memory = e.runner.lost_memory;
       rng = e.runner.rng;
       calls = L.calls e.runner.outlet.link;
+      queues = L.queues e.runner.outlet.link;
       moments = C.moments e.runner.clock;
       lost_sends = e.runner.outlet.lost_sends;
       log_failed = e.runner.outlet.log_failed;
@@ -108,8 +109,8 @@ impl<S: RouteStore, L: Link, C: TimeSource, R: Rng + Drop> Engine<S, L, C, R> {
         self.turns_observed(n, log, &mut NoObserver)
     }
 
-    /// Makes turns as `turns` does, and notifies an observer, in order, of each arrival with what the router made of it, and then of
-    /// each datagram that was handed to the link. An arrival that is lost because memory was refused is not reported.
+    /// Makes turns as `turns` does, and notifies an observer, in order, of each arrival with what the router made of it, of
+    /// each update that a tick sends, and of each datagram that was handed to the link. An arrival that is lost because memory was refused is not reported.
     ///
     /// # Errors
     /// As `turns`. The observer is notified of all that was done until then, the step that ran out of memory included.
@@ -237,6 +238,13 @@ impl<S: RouteStore, L: Link, C: TimeSource, R: Rng + Drop> Engine<S, L, C, R> {
         &self.runner.outlet.link
     }
 
+    /// What waits to be sent on an interface; nothing where the link has no such interface.
+    pub fn queue_at(&self, iface: usize) -> Queue
+        ensures { result ≡ queue_at self.now.queues iface }
+    {
+        self.runner.outlet.link.queue_at(iface)
+    }
+
     /// The clock.
     pub fn clock(&self) -> &C
         ensures { C.moments result.now ≡ self.now.moments }
@@ -244,7 +252,8 @@ impl<S: RouteStore, L: Link, C: TimeSource, R: Rng + Drop> Engine<S, L, C, R> {
         &self.runner.clock
     }
 
-    /// Changes the link between two turns. Router, forwarding table, clock, random source, counts and the calls of the link stay.
+    /// Changes the link between two turns. Router, forwarding table, clock, random source, counts, the calls of the link and what waits
+    /// to be sent on it stay.
     pub fn change_link<T: LinkChange<L>>(&mut self, change: &mut T)
         ensures { self.new ≡ self.old }
     {

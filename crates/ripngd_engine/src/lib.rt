@@ -7,7 +7,7 @@
 //! **A turn** is one `recv`, then the arrival of the datagram if one came, then one tick:
 //!
 //! ```text
-//! recv -- datagram -> Router::arrive -> observer, link, table, log --> Router::tick -> link, observer, table, log
+//! recv -- datagram -> Router::arrive -> observer, link, table, log --> Router::tick -> observer, link, table, log
 //!     \-- nothing -----------------------------------------------/
 //! ```
 //!
@@ -38,8 +38,8 @@ pub use clock::TimeSource;
 pub use engine::Engine;
 pub use laws::turns_go_on;
 pub use lines::{ChangeLine, RouteLine, first_line, write_entries};
-pub use link::{Link, LinkChange, LinkFault, Received};
-pub use observer::{Arrived, NoObserver, TrafficObserver};
+pub use link::{Link, LinkChange, LinkFault, Queue, Received};
+pub use observer::{Arrived, NoObserver, TrafficObserver, Update};
 pub use peer::{Peer, Place, Sender, Socket, has_clash};
 pub use report::{ChangeFault, EngineFault, Report};
 pub use transcript::{Entry, Transcript};

@@ -1,7 +1,7 @@
 //! The link that an engine sends and receives over.
 
 ghost use Rattle.std.specs.Prelude.{◌≡◌, ℕ, ◌<◌, ◌≤◌, [], ◌∷◌, List, Option, length, is_ok, IfOk, IfSome};
-ghost use Rattle.ripngd_engine.specs.Common.{Call, Handed, recv_call, Gains};
+ghost use Rattle.ripngd_engine.specs.Common.{Call, Handed, recv_call, Gains, no_queue, queue_at};
 
 use prefix6::Addr6;
 use router_core::Outgoing;
@@ -24,6 +24,27 @@ pub struct Received {
     pub len: usize,
 }
 
+/// What waits to be sent on an interface.
+#[derive(Clone, Copy, Debug, PartialEq, Eq)]
+pub struct Queue {
+    /// Datagrams.
+    pub waiting: usize,
+    /// Those of them that answer Requests; the others are parts of updates and Requests.
+    pub answers: usize,
+}
+
+impl Queue {
+    /// Nothing waits.
+    pub const fn empty() -> Queue
+        ensures { result ≡ no_queue }
+    {
+        Queue {
+            waiting: 0,
+            answers: 0,
+        }
+    }
+}
+
 /// A link could not be read, or could not send a datagram.
 #[derive(Clone, Copy, Debug, PartialEq, Eq, Error)]
 #[error("the link failed")]
@@ -31,6 +52,8 @@ pub struct LinkFault;
 
 /// Interfaces, numbered from 0, that receive and send datagrams.
 pub trait Link: Drop {
+    ghost use Rattle.ripngd_engine.specs.declared.link.Queue.{Queue};
+
     // The calls of `recv` and `send` so far, failed or not, or `None` for a link whose past contracts do not see. From `Some` it
     // may become `None`, and nothing is promised from then on.
     ghost calls: { Self → Option (List Call) };
@@ -38,9 +61,16 @@ pub trait Link: Drop {
     // How many interfaces it has. No call changes it.
     ghost interface_count: { Self → ℕ };
 
+    // What waits to be sent on each interface, in their order.
+    ghost queues: { Self → List Queue };
+
     /// How many interfaces it has.
     fn interfaces(&self) -> usize
         ensures { result ≡ interface_count self.now };
+
+    /// What waits to be sent on an interface; nothing where the link has no such interface.
+    fn queue_at(&self, iface: usize) -> Queue
+        ensures { result ≡ queue_at (queues self.now) iface };
 
     /// Receives the next datagram into the buffer. It may wait a little; `None` where no datagram came.
     ///
@@ -66,5 +96,6 @@ pub trait LinkChange<L: Link> {
     /// Makes the change.
     fn make(&mut self, link: &mut L)
         ensures calls { L.calls link.new ≡ L.calls link.old }
+        ensures queues { L.queues link.new ≡ L.queues link.old }
         ensures same { L.interface_count link.new ≡ L.interface_count link.old };
 }

@@ -1,7 +1,7 @@
-//! The observer of a run: it is notified of each datagram that is processed or sent.
+//! The observer of a run: it is notified of each datagram that is processed or sent, and of each update.
 
 ghost use Rattle.std.specs.Prelude.{⊤};
-ghost use Rattle.ripngd_engine.specs.Common.{LinkReport, Processed, Sent};
+ghost use Rattle.ripngd_engine.specs.Common.{LinkReport, Processed, Begins, Sent};
 
 use prefix6::Addr6;
 use route_table::Moment;
@@ -20,6 +20,15 @@ pub struct Arrived {
     pub source_port: u16,
 }
 
+/// An update of a router's neighbors (RFC 2080, section 2.5).
+#[derive(Clone, Copy, Debug, PartialEq, Eq)]
+pub enum Update {
+    /// One of all routes, every 15 to 45 seconds (section 2.3).
+    Regular,
+    /// One of the routes that have changed (section 2.5.1).
+    Triggered,
+}
+
 /// An observer of the datagrams that are processed and sent. It cannot fail, and changes nothing of the run.
 pub trait TrafficObserver {
     // What a report makes of it: its state before, the report, its state after.
@@ -29,6 +38,10 @@ pub trait TrafficObserver {
     /// was lost because memory was refused is not reported.
     fn processed(&mut self, arrived: Arrived, bytes: &[u8], fault: Option<Fault>, notes: &[Note])
         ensures { takes self.old (Processed arrived bytes.now fault notes.now) self.new };
+
+    /// A tick sends an update: the datagrams that are reported next, until anything else is, are those of it, interface by interface.
+    fn begins(&mut self, update: Update)
+        ensures { takes self.old (Begins update) self.new };
 
     /// A datagram was handed to the link, which could send it or not.
     fn sent(&mut self, outgoing: &Outgoing, went: bool)
@@ -49,6 +62,8 @@ impl TrafficObserver for NoObserver {
         _fault: Option<Fault>,
         _notes: &[Note],
     ) {}
+
+    fn begins(&mut self, _update: Update) {}
 
     fn sent(&mut self, _outgoing: &Outgoing, _went: bool) {}
 }

@@ -1,17 +1,17 @@
 //! A router that runs: the steps of one turn.
 
-ghost use Rattle.std.specs.Prelude.{◌≡◌, ◌<◌, ◌≤◌, [], ◌∷◌, false, IfOk, IfSome, is_err, length, vec_len};
-ghost use Rattle.ripngd_engine.specs.Common.{next_u32, Gains, recv_call, TicksOnce, Coded-set, →_prop, forwards, NamesInterface, ShutsDownOnce, LinkComesUpOnce, LinkGoesDownOnce, ReconfigureAnswer, StepAnswer, NoLink, NoMemory};
+ghost use Rattle.std.specs.Prelude.{◌≡◌, ◌<◌, ◌≤◌, max, [], ◌∷◌, false, IfOk, IfSome, is_err, length, vec_len};
+ghost use Rattle.ripngd_engine.specs.Common.{begun, is_regular_due, WasTold, next_u32, Gains, recv_call, TicksOnce, Coded-set, →_prop, forwards, NamesInterface, ShutsDownOnce, LinkComesUpOnce, LinkGoesDownOnce, ReconfigureAnswer, StepAnswer, NoLink, NoMemory};
 ghost use Rattle.fib.specs.contracts.fib.Fib as forwarding;
 
 use crate::clock::TimeSource;
 use crate::link::{Link, LinkFault, Received};
-use crate::observer::{Arrived, NoObserver, TrafficObserver};
+use crate::observer::{Arrived, NoObserver, TrafficObserver, Update};
 use crate::outlet::{Outlet, one_more};
 use crate::report::ChangeFault;
 use rand_core::Rng;
-use route_table::RouteStore;
-use router_core::{Arrival, Change, ReconfigureRefused, Router};
+use route_table::{Moment, RouteStore};
+use router_core::{Arrival, Change, Outgoing, ReconfigureRefused, Router};
 use std::alloc::AllocError;
 use std::io::Write;
 
@@ -62,10 +62,28 @@ fn listen<L: Link>(link: &mut L, buffer: &mut Vec<u8>) -> Result<Option<Received
     link.recv(buffer.as_mut_slice())
 }
 
+/// Whether the next regular update of a router is due at a moment; one before its last step counts as that.
+fn is_regular_due<S: RouteStore>(router: &Router<S>, now: Moment) -> bool
+    ensures { result ≡ is_regular_due router.now (max router.now.last now) }
+{
+    router.regular().reached(router.last().max(now))
+}
+
+/// Notifies an observer of the update that a tick sends, if it sends one.
+fn tell_of_update<V: TrafficObserver>(is_regular: bool, sends: &[Outgoing], observer: &mut V)
+    ensures { WasTold V.takes observer.old (begun is_regular sends.now) observer.new }
+{
+    match sends {
+        [] => {}
+        [_, ..] if is_regular => observer.begins(Update::Regular),
+        [_, ..] => observer.begins(Update::Triggered),
+    }
+}
+
 impl<S: RouteStore, L: Link, C: TimeSource, R: Rng + Drop> Runner<S, L, C, R> {
     ghost use Rattle.ripngd_engine.specs.Runner.{runner_seen, ActsTold, TakesReceived, TurnAnswers};
 
-    /// A tick now, with the next random word.
+    /// A tick now, with the next random word. The observer learns which update it sends before that is carried out.
     fn tick<W: Write, V: TrafficObserver>(
         &mut self,
         log: &mut W,
@@ -78,8 +96,12 @@ impl<S: RouteStore, L: Link, C: TimeSource, R: Rng + Drop> Runner<S, L, C, R> {
     {
         let now = self.clock.now();
         let word = self.rng.next_u32();
+        let is_regular = is_regular_due(&self.router, now);
         match self.router.tick(now, word) {
-            Ok(answer) => self.outlet.carry_out(answer, log, observer),
+            Ok(answer) => {
+                tell_of_update(is_regular, answer.sends.as_slice(), observer);
+                self.outlet.carry_out(answer, log, observer)
+            }
             Err(_) => {
                 self.lost_memory = one_more(self.lost_memory);
                 Ok(())

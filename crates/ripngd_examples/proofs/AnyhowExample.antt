@@ -14,11 +14,11 @@ use Rattle.ripng_world.specs.World.{sent_by}
 use Rattle.ripng_phases.proofs.EachPlace.{AtEachPlace, at_each_place, front_is}
 use Rattle.ripngd_engine.specs.Link.{Gave}
 use Rattle.ripngd_engine.specs.Run.{Machine, Trace, followed_by, one_call}
-use Rattle.ripngd_networks.specs.Ages.{GoOnAnyhow, IsAwake, LivesTicking, StaysUp}
-use Rattle.ripngd_networks.specs.Daemons.{Act, Start, Listen, Tick, own_deeds}
-use Rattle.ripngd_networks.specs.Links.{all_handed}
-use Rattle.ripngd_networks.specs.OnTime.{AreNumbered, Dated, undated}
-use Rattle.ripngd_networks.proofs.TwoDaemons.{doc, owned, local, nodes, one_route, learned, told_once, request, install_own, get_one, fits_doc, one_entry, owner_is, learner_is, learner_with, word_of, left, sends, owner_up, learner_up, update, ticks, request_given, update_given, request_copied, update_copied, answers, takes_request, learns, takes_update}
+use Rattle.ripngd_theorems.specs.Ages.{GoOnAnyhow, IsAwake, LivesTicking, StaysUp}
+use Rattle.ripngd_theorems.specs.Daemons.{Act, Start, Listen, Tick, own_deeds}
+use Rattle.ripngd_theorems.specs.Links.{all_handed}
+use Rattle.ripngd_theorems.specs.OnTime.{AreNumbered, Dated, undated}
+use Rattle.ripngd_theorems.proofs.TwoDaemons.{doc, owned, local, nodes, one_route, learned, told_once, request, install_own, get_one, fits_doc, one_entry, owner_is, learner_is, learner_with, word_of, left, sends, sends_update, owner_up, learner_up, update, ticks, request_given, update_given, request_copied, update_copied, answers, takes_request, learns, takes_update}
 
 -- ---- the deeds
 
@@ -38,13 +38,13 @@ abbrev anew : Dated
 anew = dated 50_000 1 Start (sends request 0 []) None
 
 abbrev tells : Dated
-tells = dated 50_100 0 Tick (sends (update (owned_route 0)) 50_000 []) None
+tells = dated 50_100 0 Tick (sends_update (update (owned_route 0)) 50_000) None
 
 abbrev told : Dated
 told = dated 50_200 1 (Listen (Gave update_given)) (followed_by (one_call (Gave update_given)) (learns 200)) (Some 4)
 
 abbrev poisons : Dated
-poisons = dated 50_300 1 Tick (sends (update (learned 200)) 300 []) None
+poisons = dated 50_300 1 Tick (sends_update (update (learned 200)) 300) None
 
 abbrev until_told : List Dated
 until_told = first_up ∷ second_up ∷ asked ∷ anew ∷ tells ∷ []

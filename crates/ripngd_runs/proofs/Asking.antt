@@ -13,7 +13,7 @@ use Rattle.ripngd_engine.specs.Seen.{Acts, Seen, Shows}
 use Rattle.ripngd_engine.proofs.Steps.{Shows-no_step, Shows-trans}
 use Rattle.ripngd_daemon.specs.Questions.{AsksAll, AsksOn, AsksOnFirst, LosesRoute}
 use Rattle.ripngd_daemon.specs.Run.{AreDone, AsksRightly as HasAskedRightly, HasLostSince, IsSecondAfter, Steps, Begun, Turned, Told, Asked, lines_in}
-use Rattle.ripngd_networks.specs.Daemons.{Act, Start, Ask, Deed, Does as DoesNext, Lives, traces_of}
+use Rattle.ripngd_theorems.specs.Daemons.{Act, Start, Ask, Deed, Does as DoesNext, Lives, traces_of}
 use Rattle.ripngd_runs.specs.Lives.{ordered_acts, AreActsForLines}
 use Rattle.ripngd_runs.specs.Questions.{Waiting, AsksRightly, MayAsk, asks_on, has_lost, unreachable_in, waits_after, waits_for_nothing}
 use Rattle.ripngd_runs.proofs.Obeying.{AreUnasked, AreUnstarted, Did, followed_by-no_step, joined-append, lines_more, lives_on, obeyed, ordered-append, traces-append, turned}

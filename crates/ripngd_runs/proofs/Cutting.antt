@@ -7,8 +7,8 @@ use Rattle.router_core.specs.declared.reconfiguring.Change.{Change}
 use Rattle.ripng_world.specs.Network.{Network, Node, config_of}
 use Rattle.ripng_world.specs.declared.event.Sent.{Sent}
 use Rattle.ripngd_engine.specs.Run.{Machine}
-use Rattle.ripngd_networks.specs.Daemons.{Deed, Happened, Lives, own_deeds, reconfiguration_by, reconfigurations_by}
-use Rattle.ripngd_networks.specs.Links.{AreGiven, HaveRun, handed_by}
+use Rattle.ripngd_theorems.specs.Daemons.{Deed, Happened, Lives, own_deeds, reconfiguration_by, reconfigurations_by}
+use Rattle.ripngd_theorems.specs.Links.{AreGiven, HaveRun, handed_by}
 use Rattle.ripngd_runs.proofs.Weaving.{put_at, at_each}
 
 -- ---- lists

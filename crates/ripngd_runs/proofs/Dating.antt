@@ -14,8 +14,8 @@ use Rattle.ripng_world.specs.Past.{Past, IsBackedSince}
 use Rattle.ripngd_daemon.specs.Run.{ShowsRun}
 use Rattle.ripngd_daemon.specs.declared.history.History.{History}
 use Rattle.ripngd_engine.specs.Run.{Machine}
-use Rattle.ripngd_networks.specs.Daemons.{Deed, Happened, in_force, own_deeds, reconfigurations_by}
-use Rattle.ripngd_networks.specs.OnTime.{Dated, ForwardsLeast, undated}
+use Rattle.ripngd_theorems.specs.Daemons.{Deed, Happened, in_force, own_deeds, reconfigurations_by}
+use Rattle.ripngd_theorems.specs.OnTime.{Dated, ForwardsLeast, undated}
 use Rattle.ripngd_runs.specs.Dated.{AreDeedsOf, AreLives, HasNoEntry, HoldsLeast, IsLastRun, after_runs, daemons_of}
 use Rattle.ripngd_runs.specs.Lives.{AreActsForLines, ordered_acts}
 use Rattle.ripngd_runs.specs.Networks.{AreActsForRuns, AreInTurn, HoldsOnlyWalks, Program, WereOrdered}

@@ -17,7 +17,7 @@ use Rattle.ripngd_control.specs.declared.command.Command.{Command}
 use Rattle.ripngd_control.specs.declared.command.Command.TheVariants as commands
 use Rattle.ripngd_control.specs.declared.reply.Reply.{Reply}
 use Rattle.ripngd_control.specs.declared.reply.Reply.TheVariants as replies
-use Rattle.ripngd_networks.specs.Daemons.{Act, Start, Listen, Tick, Reconfigure, Shutdown, LinkDown, LinkUp, Ask, Refuse, Deed, Does as DoesNext, HearsCall, Lives, traces_of}
+use Rattle.ripngd_theorems.specs.Daemons.{Act, Start, Listen, Tick, Reconfigure, Shutdown, LinkDown, LinkUp, Ask, Refuse, Deed, Does as DoesNext, HearsCall, Lives, traces_of}
 use Rattle.ripngd_runs.specs.Lives.{ordered_act, ordered_acts, IsDoneOrRefused, AreActsFor, AreActsForLines}
 use Rattle.ripngd_runs.specs.Questions.{asks_on}
 

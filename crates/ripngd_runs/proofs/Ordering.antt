@@ -8,7 +8,7 @@ use Rattle.ripng_world.specs.Network.{Network}
 use Rattle.ripngd_control.specs.Commands.{control_text}
 use Rattle.ripngd_control.specs.declared.command.Command.{Command}
 use Rattle.ripngd_control.specs.declared.command.Command.TheVariants as commands
-use Rattle.ripngd_networks.specs.Daemons.{Act, Start, Listen, Tick, Reconfigure, Shutdown, LinkDown, LinkUp, Ask, Refuse, Deed, Happened, own_deeds, reconfiguration_of, reconfigurations_by}
+use Rattle.ripngd_theorems.specs.Daemons.{Act, Start, Listen, Tick, Reconfigure, Shutdown, LinkDown, LinkUp, Ask, Refuse, Deed, Happened, own_deeds, reconfiguration_of, reconfigurations_by}
 use Rattle.ripngd_runs.specs.Lives.{AreActsFor, AreActsForLines, IsDoneOrRefused, ordered_act, ordered_acts}
 use Rattle.ripngd_runs.specs.Networks.{AreActsForRuns, OrdersNoChange, Program, own_changes}
 

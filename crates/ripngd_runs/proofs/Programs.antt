@@ -17,8 +17,8 @@ use Rattle.ripngd_daemon.specs.Run.{ShowsRun, outside_before, words_of}
 use Rattle.ripngd_daemon.specs.declared.history.History.{History}
 use Rattle.ripngd_engine.specs.Run.{Machine}
 use Rattle.ripngd_engine.specs.Seen.{Started}
-use Rattle.ripngd_networks.specs.Daemons.{Deed, Happened, Lives, in_force, own_deeds, reconfigurations_by}
-use Rattle.ripngd_networks.specs.Links.{HaveRun, past_of_daemons}
+use Rattle.ripngd_theorems.specs.Daemons.{Deed, Happened, Lives, in_force, own_deeds, reconfigurations_by}
+use Rattle.ripngd_theorems.specs.Links.{HaveRun, past_of_daemons}
 use Rattle.ripngd_runs.specs.Lives.{AreActsForLines, ordered_acts}
 use Rattle.ripngd_runs.specs.Networks.{AreActsForRuns, AreInTurn, AreRunning, HoldsOnlyWalks, LinkCall, OrdersNoChange, Program, WereOrdered, calls_of}
 use Rattle.ripngd_runs.proofs.Cutting.{cut, ran_until, reconfigurations-append}

@@ -18,7 +18,7 @@ use Rattle.ripngd_engine.specs.Run.{Machine, Trace, Turns, all_joined, no_step, 
 use Rattle.ripngd_engine.specs.Seen.{Listens, RanUntilDeaf, Seen, Shows}
 use Rattle.ripngd_engine.specs.Telling.{Gains}
 use Rattle.ripngd_engine.proofs.Steps.{Shows-no_step, Shows-trans}
-use Rattle.ripngd_networks.specs.Daemons.{Start, Listen, Deed, Lives, in_force, traces_of}
+use Rattle.ripngd_theorems.specs.Daemons.{Start, Listen, Deed, Lives, in_force, traces_of}
 use Rattle.ripngd_runs.specs.Lives.{AreActsForLines, IsLife}
 use Rattle.ripngd_runs.proofs.Asking.{DidSteps, all_done, led_then}
 use Rattle.ripngd_runs.proofs.Obeying.{Did, nothing}

@@ -7,7 +7,7 @@ use Rattle.router_core.specs.Machine.{Happening, Arrives, Ticks, Reconfigures, S
 use Rattle.ripngd_engine.specs.Changing.{LinkComesUpOnce, ReconfiguresNothing}
 use Rattle.ripngd_engine.specs.Link.{Call, Gave, Silent, RecvFailed, Handed}
 use Rattle.ripngd_engine.specs.Run.{Machine, Trace, MovedOrLost, Sends, all_joined, arrival, handed}
-use Rattle.ripngd_networks.specs.Daemons.{Act, Start, Listen, Tick, Reconfigure, Shutdown, LinkDown, LinkUp, Ask, Refuse, Deed, Does, Goes, HearsCall, Lives, traces_of}
+use Rattle.ripngd_theorems.specs.Daemons.{Act, Start, Listen, Tick, Reconfigure, Shutdown, LinkDown, LinkUp, Ask, Refuse, Deed, Does, Goes, HearsCall, Lives, traces_of}
 use Rattle.ripngd_runs.proofs.Weaving.{HasCalls, IsHanded, IsShaped, calls_in}
 
 abbrev AreHanded : List Call → Type 0

@@ -16,7 +16,7 @@ use Rattle.ripng_world.proofs.WorldRuns.{set_addresses, zoned_address}
 use Rattle.ripngd_engine.specs.Changing.{LinkComesUpOnce, ReconfiguresNothing}
 use Rattle.ripngd_engine.specs.Link.{Call, Gave, Silent, RecvFailed, Handed}
 use Rattle.ripngd_engine.specs.Run.{Machine, Trace, MovedOrLost, arrival}
-use Rattle.ripngd_networks.specs.Daemons.{Act, Start, Listen, Tick, Reconfigure, Shutdown, LinkDown, LinkUp, Ask, Refuse, Deed, Does, Goes, HearsCall, Lives, in_force}
+use Rattle.ripngd_theorems.specs.Daemons.{Act, Start, Listen, Tick, Reconfigure, Shutdown, LinkDown, LinkUp, Ask, Refuse, Deed, Does, Goes, HearsCall, Lives, in_force}
 
 -- ---- a router
 

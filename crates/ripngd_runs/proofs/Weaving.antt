@@ -7,8 +7,8 @@ use Rattle.ripng_world.specs.Network.{Network, Node, config_of}
 use Rattle.ripng_world.specs.World.{sent_by}
 use Rattle.ripng_world.specs.declared.event.Sent.{Sent}
 use Rattle.ripngd_engine.specs.Link.{Call, Gave, Silent, RecvFailed, Handed}
-use Rattle.ripngd_networks.specs.Daemons.{Act, Start, Listen, Tick, Reconfigure, Shutdown, LinkDown, LinkUp, Ask, Refuse, Deed, Happened, own_deeds}
-use Rattle.ripngd_networks.specs.Links.{handed_in, handed_by, IsGiven, AreGiven}
+use Rattle.ripngd_theorems.specs.Daemons.{Act, Start, Listen, Tick, Reconfigure, Shutdown, LinkDown, LinkUp, Ask, Refuse, Deed, Happened, own_deeds}
+use Rattle.ripngd_theorems.specs.Links.{handed_in, handed_by, IsGiven, AreGiven}
 use Rattle.ripngd_runs.specs.Networks.{LinkCall, own_calls, handed_at, AreCallsGiven}
 use Rattle.router_core.specs.Config.{Config}
 use Rattle.router_core.specs.declared.answer.Outgoing.{Outgoing}

@@ -19,7 +19,7 @@ use Rattle.ripngd_engine.specs.Log.{log_of}
 use Rattle.ripngd_engine.specs.Run.{Machine, Trace, ComesUp, Turn, counted, followed_by, one_call}
 use Rattle.ripngd_engine.specs.Seen.{Outside}
 use Rattle.ripng_phases.proofs.TwoRouters.{zoned}
-use Rattle.ripngd_networks.proofs.TwoDaemons.{doc, owned, local, nodes, owner, learner, learned, told_once, request, install_own, get_one, fits_doc, one_entry, owner_is, learner_is, learner_with, word_of, left, sends, owner_up, learner_up, update, ticks, request_given, update_given, request_copied, update_copied, reply, answers, takes_request, learns, takes_update}
+use Rattle.ripngd_theorems.proofs.TwoDaemons.{doc, owned, local, nodes, owner, learner, learned, told_once, request, install_own, get_one, fits_doc, one_entry, owner_is, learner_is, learner_with, word_of, left, sends, sends_update, owner_up, learner_up, update, ticks, request_given, update_given, request_copied, update_copied, reply, answers, takes_request, learns, takes_update}
 use Rattle.ripngd_runs.specs.Networks.{AreCallsGiven, AreInTurn, AreRunning, LinkCall, Program, calls_of, own_calls}
 
 -- ---- what both runs have
@@ -103,7 +103,7 @@ one_turn router up turn begun now comes_up turns went went_too =
 -- ---- the run of the first: it starts, takes in the Request, answers it, and ticks
 
 abbrev owner_trace : Trace
-owner_trace = followed_by (one_call (Gave request_given)) (followed_by (answers 12) (sends (update (owned_route 0)) 13 []))
+owner_trace = followed_by (one_call (Gave request_given)) (followed_by (answers 12) (sends_update (update (owned_route 0)) 13))
 
 pub owner_turn : Turn (owner_is 10 10 10 words) owner_trace (owner_is 13 (next_regular 13 (word_of words)) 10 (left words))
 owner_turn =
@@ -112,7 +112,7 @@ owner_turn =
       call = Gave request_given;
       taken = answers 12;
       middle = owner_is 12 10 10 words;
-      ticked = sends (update (owned_route 0)) 13 [];
+      ticked = sends_update (update (owned_route 0)) 13;
       takes_in = takes_request 10 10 10 12 words;
       ticks = ticks 1 owned (owned_route 0) 12 10 10 13 (one_entry Direct 1) words refl refl refl (fits_doc 0 1 (omega arith) (omega arith));
       trace = refl;
@@ -124,7 +124,7 @@ owner_runs = one_turn owner (sends request 10 install_own) owner_trace (owner_is
 -- ---- the run of the second: it starts, takes in the update, and ticks
 
 abbrev learner_trace : Trace
-learner_trace = followed_by (one_call (Gave update_given)) (followed_by (learns 12) (sends (update (learned 12)) 13 []))
+learner_trace = followed_by (one_call (Gave update_given)) (followed_by (learns 12) (sends_update (update (learned 12)) 13))
 
 abbrev learner_now : Machine
 learner_now = learner_with (told_once (learned 12)) 13 (next_regular 13 (word_of words)) 10 (left words)
@@ -136,7 +136,7 @@ learner_turn =
       call = Gave update_given;
       taken = learns 12;
       middle = learner_with (learned 12) 12 10 10 words;
-      ticked = sends (update (learned 12)) 13 [];
+      ticked = sends_update (update (learned 12)) 13;
       takes_in = takes_update 10 10 10 12 words;
       ticks = ticks 2 [] (learned 12) 12 10 10 13 (one_entry (Via 0 (local 1)) 2) words refl refl refl (fits_doc 0 16 (omega arith) (omega arith));
       trace = refl;

@@ -24,11 +24,11 @@ pub use Rattle.ripngd_daemon.specs.declared.history.History.{History}
 pub use Rattle.ripngd_engine.specs.Link.{Call}
 pub use Rattle.ripngd_engine.specs.Run.{Machine, all_joined}
 pub use Rattle.ripngd_engine.specs.Seen.{Seen, Shows}
-pub use Rattle.ripngd_networks.specs.Ages.{GoOnAnyhow, IsAwake, past_since}
-pub use Rattle.ripngd_networks.specs.Daemons.{Act, Start, Listen, Tick, Reconfigure, Shutdown, LinkDown, LinkUp, Ask, Refuse, Deed, Does, Happened, Lives, in_force, own_deeds, reconfiguration_of, reconfigurations_by, traces_of}
-pub use Rattle.ripngd_networks.specs.Delivering.{AllGoOn, forwardings_by}
-pub use Rattle.ripngd_networks.specs.Links.{HaveRun, IsGiven, handed_in, past_of_daemons}
-pub use Rattle.ripngd_networks.specs.OnTime.{AreOnTime, Dated, ForwardsLeast, GoOn, undated}
+pub use Rattle.ripngd_theorems.specs.Ages.{GoOnAnyhow, IsAwake, past_since}
+pub use Rattle.ripngd_theorems.specs.Daemons.{Act, Start, Listen, Tick, Reconfigure, Shutdown, LinkDown, LinkUp, Ask, Refuse, Deed, Does, Happened, Lives, in_force, own_deeds, reconfiguration_of, reconfigurations_by, traces_of}
+pub use Rattle.ripngd_theorems.specs.Delivering.{AllGoOn, forwardings_by}
+pub use Rattle.ripngd_theorems.specs.Links.{HaveRun, IsGiven, handed_in, past_of_daemons}
+pub use Rattle.ripngd_theorems.specs.OnTime.{AreOnTime, Dated, ForwardsLeast, GoOn, undated}
 pub use Rattle.route_table.specs.Route.{RouteValue, infinity}
 pub use Rattle.router_core.specs.Changes.{forward}
 pub use Rattle.router_core.specs.Config.{Config}

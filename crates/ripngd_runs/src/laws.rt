@@ -5,7 +5,7 @@ ghost use Rattle.std.specs.Prelude.{◌≡◌, ℕ, ◌+◌, ◌-◌, ◌*◌, �
 ghost use Rattle.ripngd_runs.specs.Common.{Appends, Forwarding, Prefix6, Lcg, Network, OwnsPrefixes, IsBacked, Order, Configuration, IsConfigured, Failure, HasFailed, HasRun, IsRan, lines_of, table_text, History, Call, Machine, all_joined, Seen, Deed, in_force, traces_of, RouteValue, infinity, Config, Change, IsLife, IsUnderWay, IsNeverQuiet, FitsTablesSince, network_now, Node, config_of, IsNetwork, PacketsArriveBy, IsBackedSince, OwnsSince, IsAwake, past_since, Happened, reconfigurations_by, AllGoOn, forwardings_by, past_of_daemons, Dated, undated, AreLives, HasNoEntry, HoldsLeast, IsLastRun, RunAnyhow, RunOnTime, daemons_of, AreInTurn, AreRunning, HoldsOnlyWalks, LinkCall, OrdersNoChange, Program, WereOrdered};
 ghost use Rattle.std.specs.FinMap as map_of;
 
-use ripngd_networks::{
+use ripngd_theorems::{
     daemons_deliver, daemons_forget_old_news, daemons_heal, daemons_invent_no_distance,
 };
 

@@ -4,6 +4,7 @@ pub mod Real
 pub mod Sending
 pub mod Moments
 pub mod SendQueue
+pub mod Queues
 pub mod ReceiveQueue
 pub mod Requests
 pub mod Counting

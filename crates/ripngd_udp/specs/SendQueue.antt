@@ -5,6 +5,7 @@ use Rattle.router_core.specs.declared.answer.Destination.{Destination}
 use Rattle.router_core.specs.declared.answer.Destination.TheVariants as destination
 use Rattle.router_core.specs.declared.answer.Outgoing.{Outgoing}
 use Rattle.ripngd_udp.specs.declared.pace.Rate.{Rate}
+use Rattle.ripngd_engine.specs.declared.link.Queue.{Queue}
 use Rattle.ripngd_engine.specs.declared.peer.Socket.TheVariants.{Local, Inherited}
 use Rattle.ripngd_engine.specs.declared.peer.Socket.{Socket}
 use Rattle.ripngd_udp.specs.Peers.{OnLink}
@@ -58,6 +59,10 @@ answers_of (destination.Peer addr port) = 1
 -- how many of these answer Requests
 abbrev pub answers_in : List Outgoing → ℕ
 answers_in waiting = sum_by (λ d. answers_of d.to) waiting
+
+-- how many datagrams these are, and how many of them answers
+abbrev pub queue_of : List Outgoing → Queue
+queue_of waiting = record { waiting = length waiting; answers = answers_in waiting }
 
 -- one more for that destination may wait: 4,096 in all, and of them 1,200 answers
 abbrev pub may_wait : List Outgoing → Destination → Bool

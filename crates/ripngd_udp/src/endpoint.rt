@@ -1,7 +1,8 @@
 //! The sockets of an interface, with its queues of received datagrams and of those that wait to be sent.
 
-ghost use Rattle.std.specs.Prelude.{◌≡◌, ◌≤◌, IfErr, IfOk, IfSome, IsNone, length, true, vec_len};
-ghost use Rattle.ripngd_udp.specs.Common.{GivesNone, Grows, Judges, NamesSocketOf, is_command, is_taken};
+ghost use Rattle.std.specs.Prelude.{◌≡◌, ◌≤◌, IfErr, IfOk, IfSome, IsNone, length, map, true, vec_len};
+ghost use Rattle.ripngd_udp.specs.Common.{no_queue, GivesNone, Grows, Judges, NamesSocketOf, is_command, is_taken};
+ghost use Rattle.ripngd_udp.specs.Queues.{queues_of};
 
 use crate::known::Known;
 use crate::link_sockets::LinkSockets;
@@ -64,6 +65,7 @@ pub(crate) fn endpoints_at<N: Net>(
     places: &[Place],
 ) -> Result<Vec<Endpoint>, UdpError>
     ensures count { IfOk result (λ endpoints. vec_len endpoints ≡ length places.now) }
+    ensures queues { IfOk result (λ endpoints. queues_of endpoints.items ≡ map (λ p. no_queue) places.now) }
     ensures refused { IfErr result (NamesSocketOf places.now) }
 {
     let mut endpoints = Vec::new(alloc);

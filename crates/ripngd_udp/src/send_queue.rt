@@ -2,14 +2,14 @@
 //! overtaken by a later update. Of those that wait few are answers: whoever asks and asks keeps no update for long.
 
 ghost use Rattle.std.specs.Prelude.{◌≡◌, ◌<◌, ◌≤◌, ◌++◌, ◌∷◌, [], IfOk, IfSome, IsNone, MatchOption, OnErr, OnOk, drop, is_ok, length, true};
-ghost use Rattle.ripngd_udp.specs.Common.{answers_in, answers_of, goes_at_once, is_answered, is_to, may_wait, owes, rate_of, waiting_after};
+ghost use Rattle.ripngd_udp.specs.Common.{answers_in, answers_of, goes_at_once, is_answered, is_to, may_wait, owes, queue_of, rate_of, waiting_after};
 
 use crate::link_sockets::LinkSockets;
 use crate::pace::Pace;
 use crate::peer_table::PeerTable;
 use crate::sending::send;
 use prefix6::Addr6;
-use ripngd_engine::LinkFault;
+use ripngd_engine::{LinkFault, Queue};
 use router_core::{Destination, Listed, Outgoing};
 use std::alloc::{AllocError, Global};
 use std::collections::VecDeque;
@@ -69,12 +69,24 @@ fn copy_of(alloc: Global, outgoing: &Outgoing) -> Result<Outgoing, AllocError>
 
 impl SendQueue {
     /// An empty queue.
-    pub(crate) fn new(alloc: Global) -> SendQueue {
+    pub(crate) fn new(alloc: Global) -> SendQueue
+        ensures { result.waiting.items ≡ [] }
+    {
         SendQueue {
             waiting: VecDeque::new(alloc),
             answers: 0,
             pace: Pace::new(),
             alloc,
+        }
+    }
+
+    /// What waits.
+    pub(crate) fn sizes(&self) -> Queue
+        ensures { result ≡ queue_of self.now.waiting.items }
+    {
+        Queue {
+            waiting: self.waiting.len(),
+            answers: self.answers,
         }
     }
 

@@ -58,6 +58,17 @@ impl<R: Clock> Udp<'_, R> {
         left.min(self.until_due(now).unwrap_or(left))
     }
 
+    /// Notes that there is something to read: at the sockets of an interface, or at what is watched.
+    fn note_ready(&mut self, number: usize)
+        ensures { self.new ≡ self.old }
+    {
+        if number < self.endpoints.len() {
+            self.endpoints[number].ready = true;
+        } else {
+            self.was_called = true;
+        }
+    }
+
     /// Waits for all sockets at once, at most `limit` milliseconds, and notes which are ready.
     ///
     /// # Errors
@@ -71,10 +82,7 @@ impl<R: Clock> Udp<'_, R> {
             let Some(number) = self.waiting.ready_at(index) else {
                 return Ok(());
             };
-            match self.endpoints.get_mut(number) {
-                Some(endpoint) => endpoint.ready = true,
-                None => self.was_called = true,
-            }
+            self.note_ready(number);
         }
         Ok(())
     }

@@ -3,6 +3,7 @@
 
 ghost use Rattle.std.specs.Prelude.{◌≡◌, ◌↔◌, IfErr, IfOk, None, OnErr, OnOk, length, map, vec_len, ◌≤◌, ◌<◌, ◌++◌, ◌∷◌, [], IfSome, Some, is_ok};
 ghost use Rattle.ripngd_udp.specs.Common.{error_kind, result_err, ChangesLink, RefusesFor, adding_fault, removing_fault, with_peer, without_peer, NamesSocketOf, SendsLate, new_link, LinkState, Handed, recv_call};
+ghost use Rattle.ripngd_udp.specs.Queues.{queues_of};
 
 use crate::clock::Uptime;
 use crate::endpoint::{Counts, Endpoint, endpoints_at};
@@ -11,7 +12,7 @@ use crate::peer_table::{PeerTable, check_peer, peer_tables_at};
 use crate::waiting::Polled;
 use prefix6::Addr6;
 use ripngd_engine::{
-    Entry, Link, LinkFault, Peer, Place, Received, Socket, TimeSource, Transcript,
+    Entry, Link, LinkFault, Peer, Place, Queue, Received, Socket, TimeSource, Transcript,
 };
 use router_core::Outgoing;
 use std::alloc::Global;
@@ -67,8 +68,8 @@ pub enum UdpError {
     OutOfMemory,
 }
 
-/// A link of sockets, one for each interface, and a clock. Contracts see its interfaces and their peers, what it has lost, and each
-/// call of `recv` and `send` with its result. They do not see what the sockets carry.
+/// A link of sockets, one for each interface, and a clock. Contracts see its interfaces and their peers, what it has lost, what waits to
+/// be sent on each interface, and each call of `recv` and `send` with its result. They do not see what the sockets carry.
 ///
 /// A datagram is sent at once. If too many would reach the socket of a neighbor together, it is sent a few milliseconds later, by
 /// `recv` or at last by `finish`.
@@ -105,6 +106,7 @@ impl<'a, R: Clock> Model for Udp<'a, R> {
       failed_sends = link.counts.failed_sends;
       lost_arrivals = link.counts.lost_arrivals;
       strangers = link.counts.strangers;
+      queues = queues_of link.endpoints.items;
       calls = link.transcript.past.calls;
     } };
 
@@ -257,8 +259,17 @@ impl<R: Clock> Link for Udp<'_, R> {
 
     ghost interface_count = { λ link. link.interfaces };
 
+    ghost queues = { λ link. link.queues };
+
     fn interfaces(&self) -> usize {
         self.peer_tables.len()
+    }
+
+    fn queue_at(&self, iface: usize) -> Queue {
+        match self.endpoints.get(iface) {
+            Some(endpoint) => endpoint.send_queue.sizes(),
+            None => Queue::empty(),
+        }
     }
 
     fn recv(&mut self, buffer: &mut [u8]) -> Result<Option<Received>, LinkFault>
@@ -276,7 +287,7 @@ impl<R: Clock> Link for Udp<'_, R> {
     }
 
     fn send(&mut self, outgoing: &Outgoing) -> Result<(), LinkFault>
-        ensures { self.new ≡ record self.old { calls = self.old.calls ++ Handed outgoing.now (is_ok result) ∷ [] } }
+        ensures { self.new ≡ record self.old { calls = self.old.calls ++ Handed outgoing.now (is_ok result) ∷ []; queues = self.new.queues } }
     {
         let now = self.clock.now().ms();
         let answer = match self.endpoints.get_mut(outgoing.iface) {

@@ -10,7 +10,7 @@ ghost use Rattle.test_rows.specs.Memory.{call_of, claimed};
 use prefix6::Addr6;
 use rand_core::utils::NextWord;
 use rand_core::{Rng, utils};
-use ripngd_engine::{Link, LinkFault, Received, TimeSource};
+use ripngd_engine::{Link, LinkFault, Queue, Received, TimeSource};
 use route_table::Moment;
 use router_core::{Listed, Outgoing};
 use std::alloc::{AllocError, Global};
@@ -119,7 +119,7 @@ impl MemoryLink {
 }
 
 impl Link for MemoryLink {
-    ghost use Rattle.std.specs.Prelude.{◌<◌, ◌≤◌, ◌+◌, ◌-◌, ◌^◌, IfSome, IsErr, OnOk, drop, is_ok, length, min, slice_get};
+    ghost use Rattle.std.specs.Prelude.{[], ◌<◌, ◌≤◌, ◌+◌, ◌-◌, ◌^◌, IfSome, IsErr, OnOk, drop, is_ok, length, min, slice_get};
     ghost use Rattle.ripngd_engine.specs.Link.{recv_call};
     ghost use Rattle.test_rows.specs.Memory.{given_of};
 
@@ -127,8 +127,15 @@ impl Link for MemoryLink {
 
     ghost interface_count = { λ m. m.interfaces };
 
+    ghost queues = { λ _. [] };
+
     fn interfaces(&self) -> usize {
         self.interfaces
+    }
+
+    /// Nothing ever waits.
+    fn queue_at(&self, _iface: usize) -> Queue {
+        Queue::empty()
     }
 
     /// Fails where the script says so, and else gives what comes next.

@@ -1,5 +1,5 @@
 use Rattle.std.proofs.Common.{None, ◌<◌, arith}
-use Rattle.ripngd_networks.specs.Ages.{past_since}
+use Rattle.ripngd_theorems.specs.Ages.{past_since}
 use Rattle.ripngd_runs.specs.Dated.{daemons_of}
 use Rattle.ripngd_runs.proofs.Dating.{has_no_entry, holds_walks, last_is, lives_of, ordered_deeds}
 use Rattle.ripngd_runs.proofs.laws.programs_forget_old_news.Goals as goal

@@ -1,5 +1,5 @@
 use Rattle.ripng_world.specs.Healing.{network_now}
-use Rattle.ripngd_networks.specs.Links.{past_of_daemons}
+use Rattle.ripngd_theorems.specs.Links.{past_of_daemons}
 use Rattle.ripngd_runs.specs.Dated.{daemons_of}
 use Rattle.ripngd_runs.proofs.Dating.{holds_least, last_is, last_of}
 use Rattle.ripngd_runs.proofs.laws.programs_heal.Goals as goal

@@ -1,4 +1,4 @@
-use Rattle.ripngd_networks.specs.Daemons.{reconfigurations_by}
+use Rattle.ripngd_theorems.specs.Daemons.{reconfigurations_by}
 use Rattle.ripngd_runs.proofs.Programs.{fixed, holds, in_order, were_ordered}
 use Rattle.ripngd_runs.proofs.laws.programs_invent_no_distance.Goals as goal
 

@@ -12,7 +12,7 @@ returns-then-send-clause-heeds g c =
       | in-None w ↦ inl (search rules, search rules)
       | in-Some-listen w ↦
           rw (w.engine-is, w.log-is, same, ← c.next_connection.ensures)
-          (heeds _ _ _ _ _ _ _ _ _ _ _ _ w.in-Some-listen.ensures.taken w.respond-rest.ensures.answers)
+          (heeds _ _ _ _ _ _ _ _ _ _ _ _ _ w.in-Some-listen.ensures.taken w.respond-rest.ensures.answers)
     ]
 
 pub returns-else-send-clause-heeds : goal.returns-else-send-clause-heeds
@@ -20,7 +20,7 @@ returns-else-send-clause-heeds g c = elim c.match-listen.branch [
   | in-None w ↦ inl (search rules, search rules)
   | in-Some-listen w ↦
       rw (w.engine-is, w.log-is, ← c.next_connection.ensures)
-      (heeds _ _ _ _ _ _ _ _ _ _ _ _ w.in-Some-listen.ensures.taken w.respond-rest.ensures.answers)
+      (heeds _ _ _ _ _ _ _ _ _ _ _ _ _ w.in-Some-listen.ensures.taken w.respond-rest.ensures.answers)
 ]
 
 pub returns-then-send-clause-cuts : goal.returns-then-send-clause-cuts

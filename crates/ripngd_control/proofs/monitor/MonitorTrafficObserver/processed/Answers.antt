@@ -6,6 +6,7 @@ pub returns-then-not-self : goal.returns-then-not-self
 returns-then-not-self g c = record {
   counts = c.count_arrival.ensures c.args.arrived c.args.bytes.now;
   neighbors = c.count.ensures;
+  links = c.count-2.ensures;
   stays_muted = λ h. apart _ c.if-not-self.true h;
   gains = λ h. was_no_err c.write_lines.result (sym c.is_err-self.ensures.value ∙ h) c.write_lines.ensures;
 }
@@ -14,6 +15,7 @@ pub returns-else-not-self : goal.returns-else-not-self
 returns-else-not-self g c = record {
   counts = c.count_arrival.ensures c.args.arrived c.args.bytes.now;
   neighbors = c.count.ensures;
+  links = c.count-2.ensures;
   stays_muted = λ h. (h, refl);
   gains = λ h. apart _ h c.if-not-self.false;
 }

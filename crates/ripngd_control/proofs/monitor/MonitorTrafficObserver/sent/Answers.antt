@@ -4,8 +4,9 @@ use Rattle.ripngd_control.proofs.monitor.MonitorTrafficObserver.sent.Goals as go
 
 pub returns : goal.returns
 returns g c = record {
-  counts = c.count_send.ensures c.args._outgoing.now;
+  counts = c.count_send.ensures c.args.outgoing.now;
   neighbors = refl;
+  links = c.count_send-2.ensures;
   stays_muted = λ h. (h, refl);
   gains = λ h. Appends-nil (g.W.Write.contents c.args.self.now.out);
 }

@@ -15,7 +15,8 @@ returns-in-Ok-clause-acts g c =
     let word = c.next_u32-word.result in
     Acts-ticks _ _ _ _ _ now word _ c.next_u32-word.ensures
     (Acts-moved _ _ _ _ _ _ _ _ now (Ticks now word) c.now-now.ensures.gained
-    _ _ _ _ c.in-Ok.answer _ c.in-Ok.ensures.moves refl c.carry_out.ensures.carries)
+    _ _ _ _ c.in-Ok.answer _ c.in-Ok.ensures.moves
+    (rw (c.is_regular_due-is_regular.ensures, c.as_slice.ensures) at c.tell_of_update.ensures) c.carry_out.ensures.carries)
 
 pub returns-in-Err-clause-acts : goal.returns-in-Err-clause-acts
 returns-in-Err-clause-acts g c =
