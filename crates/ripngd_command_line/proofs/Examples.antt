@@ -130,3 +130,23 @@ capture_is_missing = refl
 capturing_is_taken : takes ripngd (codes "ripngd" ∷ codes "lab" ∷ codes "--pcap" ∷ codes "c.pcap" ∷ codes "s" ∷ []) ≡ true
 unfolding clap_on_literals
 capturing_is_taken = refl
+
+-- `lab --csv 10 --by router s`: lines of numbers
+numbers_are_taken : takes ripngd (codes "ripngd" ∷ codes "lab" ∷ codes "--csv" ∷ codes "10" ∷ codes "--by" ∷ codes "router" ∷ codes "s" ∷ []) ≡ true
+unfolding clap_on_literals
+numbers_are_taken = refl
+
+-- `lab --csv 0 s`
+interval_is_some : fault_of ripngd (codes "ripngd" ∷ codes "lab" ∷ codes "--csv" ∷ codes "0" ∷ codes "s" ∷ []) ≡ ValueValidation ∷ []
+unfolding clap_on_literals
+interval_is_some = refl
+
+-- `lab --seeds 1..100 s`: a sweep
+seeds_are_taken : takes ripngd (codes "ripngd" ∷ codes "lab" ∷ codes "--seeds" ∷ codes "1..100" ∷ codes "s" ∷ []) ≡ true
+unfolding clap_on_literals
+seeds_are_taken = refl
+
+-- `ctl east.sock status --json`: an option may stand behind the words
+json_is_taken : takes ripngd (codes "ripngd" ∷ codes "ctl" ∷ codes "east.sock" ∷ codes "status" ∷ codes "--json" ∷ []) ≡ true
+unfolding clap_on_literals
+json_is_taken = refl

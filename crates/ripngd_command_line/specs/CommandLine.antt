@@ -62,13 +62,16 @@ show_command = subcommand (codes "show") (flag (by_name (codes "pcap")) ∷ requ
 abbrev pub check_command : App
 check_command = subcommand (codes "check") (required (codes "CONFIG") ∷ [])
 
--- `lab [--trace] [--explain] [--changes] [--pcap FILE] [--against EXERCISE] [--count] SCRIPT`
+-- `lab [--trace] [--explain] [--changes] [--pcap FILE] [--csv SECONDS] [--by COLUMN] [--seeds A..B] [--against EXERCISE] [--count] SCRIPT`
 abbrev pub lab_command : App
 lab_command = subcommand (codes "lab") (
     flag (by_name (codes "trace"))
     ∷ flag (by_name (codes "explain"))
     ∷ flag (by_name (codes "changes"))
     ∷ valued (by_name (codes "pcap"))
+    ∷ number 1 4294967295 (by_name (codes "csv"))
+    ∷ valued (by_name (codes "by"))
+    ∷ valued (by_name (codes "seeds"))
     ∷ valued (by_name (codes "against"))
     ∷ flag (by_name (codes "count"))
     ∷ required (codes "SCRIPT")
@@ -88,10 +91,11 @@ run_command = subcommand (codes "run") (
     ∷ required (codes "CONFIG")
     ∷ [])
 
--- `ctl PATH COMMAND [WHAT] [VALUE] [PORT]`
+-- `ctl [--json] PATH COMMAND [WHAT] [VALUE] [PORT]`
 abbrev pub ctl_command : App
 ctl_command = subcommand (codes "ctl") (
-    required (codes "PATH")
+    flag (by_name (codes "json"))
+    ∷ required (codes "PATH")
     ∷ required (codes "COMMAND")
     ∷ optional (codes "WHAT")
     ∷ optional (codes "VALUE")

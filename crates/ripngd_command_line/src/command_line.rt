@@ -1,11 +1,12 @@
 //! Parses a command line.
 
-ghost use Rattle.std.specs.Prelude.{◌≡◌, ◌≤◌, ◌↔◌, IfErr, IfOk, IfSome, IsTrue, List, Some, codes, map, option_map, true};
+ghost use Rattle.std.specs.Prelude.{◌≡◌, ◌≢◌, ◌≤◌, ◌⊎◌, ◌↔◌, IfErr, IfOk, IfSome, IsTrue, List, None, Some, codes, map, option_map, true};
 ghost use Rattle.clap.specs.Words.{FailsBy, Row, Text, fault_of, first_of, found_of, kind_of, rows_of, subcommand_rows_of, takes};
-ghost use Rattle.ripngd_command_line.specs.Asked.{AreSeconds, Asks, HasNumber, HasSign, HasOtherOption, HasSignedOrder, IsAsked, IsJob, IsSet};
+ghost use Rattle.ripngd_command_line.specs.Asked.{AreSeconds, Asks, HasNumber, HasNumbers, HasSign, HasOtherOption, HasSignedOrder, IsAsked, IsJob, IsJsonElsewhere, IsSet, IsSweep, IsWhat};
 ghost use Rattle.ripngd_command_line.specs.CommandLine.{ripngd};
 
-use crate::asked::{Ask, Capturing, Job, Marking, Order, Question};
+use crate::asked::{Ask, Capturing, Job, Marking, Numbering, Order, Question, Sweep};
+use crate::range::seeds_in;
 use crate::subcommands::command;
 use clap::error::ErrorKind;
 use clap::{ArgMatches, Error};
@@ -38,7 +39,7 @@ fn subcommand_asked<'a>(matches: &ArgMatches<'a>) -> Option<Job<'a>>
     job_of(name, inner)
 }
 
-/// The subcommand of a name, with or without a capture.
+/// The subcommand of a name, with all that it may have.
 fn job_of<'a>(name: &'a str, matches: &ArgMatches<'a>) -> Option<Job<'a>>
     ensures { IfSome result (λ job. IsJob job name.entry.now (rows_of (found_of matches.now))) }
 {
@@ -61,7 +62,7 @@ fn show_asked<'a>(matches: &ArgMatches<'a>) -> Option<Job<'a>>
     }
 }
 
-/// The subcommand of a name which has no capture, with the values of its arguments.
+/// The subcommand of a name which never has a capture, lines of numbers or seeds, with the values of its arguments.
 fn asked_of<'a>(name: &'a str, matches: &ArgMatches<'a>) -> Option<Ask<'a>>
     ensures { IfSome result (λ a. IsAsked a name.entry.now (rows_of (found_of matches.now))) }
 {
@@ -69,20 +70,90 @@ fn asked_of<'a>(name: &'a str, matches: &ArgMatches<'a>) -> Option<Ask<'a>>
         "check" => Some(Ask::Check(text(matches, "CONFIG")?)),
         "run" => run_asked(matches),
         "table" => Some(Ask::Table(text(matches, "LOG")?)),
-        "ctl" => Some(Ask::Ctl(Question {
-            socket: text(matches, "PATH")?,
-            command: text(matches, "COMMAND")?,
-            what: text(matches, "WHAT"),
-            value: text(matches, "VALUE"),
-            port: text(matches, "PORT"),
-        })),
+        "ctl" => ctl_asked(matches),
         _ => None,
     }
 }
 
-/// `lab`, with a capture or without.
+/// `ctl`, with its words.
+fn ctl_asked<'a>(matches: &ArgMatches<'a>) -> Option<Ask<'a>>
+    ensures { IfSome result (λ a. IsAsked a (codes "ctl") (rows_of (found_of matches.now))) }
+{
+    let command = text(matches, "COMMAND")?;
+    Some(Ask::Ctl(Question {
+        socket: text(matches, "PATH")?,
+        command,
+        what: what_asked(matches),
+        value: text(matches, "VALUE"),
+        port: text(matches, "PORT"),
+        mixed: is_json_elsewhere(matches, command),
+    }))
+}
+
+/// The word behind the command of `ctl`, which `--json` stands for, too.
+fn what_asked<'a>(matches: &ArgMatches<'a>) -> Option<&'a str>
+    ensures { IsWhat (option_map (λ s. s.now) result) (rows_of (found_of matches.now)) }
+{
+    if is_set(matches, "json") {
+        Some("json")
+    } else {
+        text(matches, "WHAT")
+    }
+}
+
+/// Whether `--json` stands with another command than `status`, or with a word behind it.
+fn is_json_elsewhere(matches: &ArgMatches<'_>, command: &str) -> bool
+    ensures { first_of (codes "COMMAND") (rows_of (found_of matches.now)) ≡ Some command.now
+        → (IsTrue result ↔ IsJsonElsewhere (rows_of (found_of matches.now))) }
+{
+    is_set(matches, "json") && (command != "status" || text(matches, "WHAT").is_some())
+}
+
+/// `lab`, with seeds or without.
 fn lab_asked<'a>(matches: &ArgMatches<'a>) -> Option<Job<'a>>
     ensures { IfSome result (λ job. IsJob job (codes "lab") (rows_of (found_of matches.now))) }
+{
+    match text(matches, "seeds") {
+        Some(range) => Some(Job::LabSeeds(sweep_asked(matches, range)?)),
+        None => run_once_asked(matches),
+    }
+}
+
+/// How `lab` runs a script with the seeds of a text.
+fn sweep_asked<'a>(matches: &ArgMatches<'a>, range: &'a str) -> Option<Sweep<'a>>
+    ensures { first_of (codes "seeds") (rows_of (found_of matches.now)) ≡ Some range.entry.now
+        → IfSome result (λ sweep. IsSweep sweep (rows_of (found_of matches.now))) }
+{
+    Some(Sweep {
+        script: text(matches, "SCRIPT")?,
+        range,
+        seeds: seeds_in(range),
+        mixed: is_mixed_or_captured(matches) || has_numbers(matches),
+    })
+}
+
+/// `lab` without seeds, with lines of numbers or without.
+fn run_once_asked<'a>(matches: &ArgMatches<'a>) -> Option<Job<'a>>
+    ensures { first_of (codes "seeds") (rows_of (found_of matches.now)) ≡ None
+        → IfSome result (λ job. IsJob job (codes "lab") (rows_of (found_of matches.now))) }
+{
+    if has_numbers(matches) {
+        Some(Job::LabNumbers(Numbering {
+            script: text(matches, "SCRIPT")?,
+            seconds: seconds(matches, "csv")?,
+            by: text(matches, "by"),
+            mixed: is_mixed_or_captured(matches),
+            signed: has_sign(matches, "csv"),
+        }))
+    } else {
+        text_asked(matches)
+    }
+}
+
+/// `lab` without seeds and lines of numbers, with a capture or without.
+fn text_asked<'a>(matches: &ArgMatches<'a>) -> Option<Job<'a>>
+    ensures { ¬ (HasNumbers (rows_of (found_of matches.now))) → first_of (codes "seeds") (rows_of (found_of matches.now)) ≡ None
+        → IfSome result (λ job. IsJob job (codes "lab") (rows_of (found_of matches.now))) }
 {
     let script = text(matches, "SCRIPT")?;
     match text(matches, "pcap") {
@@ -95,7 +166,21 @@ fn lab_asked<'a>(matches: &ArgMatches<'a>) -> Option<Job<'a>>
     }
 }
 
-/// Whether `lab` has an option beside that of a capture.
+/// Whether `lab` has an option of the lines of numbers.
+fn has_numbers(matches: &ArgMatches<'_>) -> bool
+    ensures { IsTrue result ↔ HasNumbers (rows_of (found_of matches.now)) }
+{
+    text(matches, "csv").is_some() || text(matches, "by").is_some()
+}
+
+/// Whether `lab` has an option beside those of seeds and lines of numbers.
+fn is_mixed_or_captured(matches: &ArgMatches<'_>) -> bool
+    ensures { IsTrue result ↔ (HasOtherOption (rows_of (found_of matches.now)) ⊎ (first_of (codes "pcap") (rows_of (found_of matches.now)) ≢ None)) }
+{
+    is_mixed(matches) || text(matches, "pcap").is_some()
+}
+
+/// Whether `lab` has an option beside those of a capture, seeds and lines of numbers.
 fn is_mixed(matches: &ArgMatches<'_>) -> bool
     ensures { IsTrue result ↔ HasOtherOption (rows_of (found_of matches.now)) }
 {
@@ -140,7 +225,7 @@ fn run_asked<'a>(matches: &ArgMatches<'a>) -> Option<Ask<'a>>
         log: text(matches, "log"),
         append: is_set(matches, "append"),
         turns: number(matches, "turns", 1)?,
-        seconds: seconds(matches)?,
+        seconds: seconds(matches, "seconds")?,
         control: text(matches, "control"),
         config: text(matches, "CONFIG")?,
         signed: has_signed_order(matches),
@@ -170,12 +255,12 @@ fn number(matches: &ArgMatches<'_>, id: &str, least: u32) -> Option<u32>
     if number < least { None } else { Some(number) }
 }
 
-/// The number of seconds, if it was given.
-fn seconds(matches: &ArgMatches<'_>) -> Option<Option<u32>>
-    ensures { IfSome result (λ seconds. AreSeconds seconds (rows_of (found_of matches.now))) }
+/// The number of seconds of an option, if it was given.
+fn seconds(matches: &ArgMatches<'_>, id: &str) -> Option<Option<u32>>
+    ensures { IfSome result (λ seconds. AreSeconds id.now seconds (rows_of (found_of matches.now))) }
 {
-    match text(matches, "seconds") {
-        Some(_) => Some(Some(number(matches, "seconds", 1)?)),
+    match text(matches, id) {
+        Some(_) => Some(Some(number(matches, id, 1)?)),
         None => Some(None),
     }
 }

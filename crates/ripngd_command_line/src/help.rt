@@ -41,6 +41,11 @@ With `--explain` a line of English for each event says what a router received,
 what it did, and why.
 With `--pcap FILE` all datagrams are written to a capture for Wireshark, with an
 interface for each link. No other option goes with it.
+With `--csv SECONDS` a header and then a line for each interval of so many
+seconds say what was sent in it, by whom with `--by router`.
+With `--seeds A..B` the script is run with each seed from A to B, which its
+lines `run` and `phases` take where they name none. A line of numbers for each
+begins with the seed and its status; the exit status is 1 if one is refused.
 With `--against` and `--count` a script is marked, and there is no `--trace`,
 `--explain` or `--changes`.
 
@@ -69,6 +74,7 @@ The answer of the router is printed. The commands are
   neighbors              print what was received from each neighbor, and when
   status                 print its interfaces, its clock, how many routes it
                          forwards by, its counts and its neighbors
+  status --json          print the same as a line of JSON; so does `status json`
   cost INTERFACE COST    set the cost of an interface
   gain PREFIX TAG        own a prefix
   drop PREFIX            withdraw an owned prefix

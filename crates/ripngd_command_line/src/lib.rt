@@ -4,8 +4,11 @@
 mod asked;
 mod command_line;
 mod help;
+mod range;
 mod subcommands;
 
-pub use asked::{Ask, Capturing, Job, Marking, Order, Question, misuse_of};
+pub use asked::{
+    Ask, Capturing, Job, Marking, Numbering, Order, Question, Seeds, Sweep, misuse_of,
+};
 pub use command_line::ask;
 pub use help::VERSION;

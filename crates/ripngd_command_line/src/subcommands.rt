@@ -30,7 +30,7 @@ fn check<'a>(alloc: Global) -> Result<Command<'a>, AllocError>
         .arg(arg!(in alloc; <CONFIG> "The file of the configuration"))
 }
 
-/// `lab [--trace] [--explain] [--changes] [--pcap FILE] [--against EXERCISE] [--count] SCRIPT`.
+/// `lab [--trace] [--explain] [--changes] [--pcap FILE] [--csv SECONDS] [--by COLUMN] [--seeds A..B] [--against EXERCISE] [--count] SCRIPT`.
 fn lab<'a>(alloc: Global) -> Result<Command<'a>, AllocError>
     ensures { IfOk result (λ c. IsCommand c lab_command) }
 {
@@ -45,6 +45,12 @@ fn lab<'a>(alloc: Global) -> Result<Command<'a>, AllocError>
             "The same, without ticks and arrivals that change no forwarding table"))?
         .arg(arg!(in alloc; --pcap <FILE>
             "Write each datagram to FILE, a capture for Wireshark, beside what the script prints"))?
+        .arg(counted(arg!(in alloc; --csv <SECONDS>
+            "Print what was sent in each interval of so many seconds, as lines of CSV, in place of what the script prints")))?
+        .arg(arg!(in alloc; --by <COLUMN>
+            "With --csv: a line for each router and interval, where COLUMN is `router`"))?
+        .arg(arg!(in alloc; --seeds <RANGE>
+            "Run it with each seed of RANGE, as 1..100, and print a line of numbers for each"))?
         .arg(arg!(in alloc; --against <EXERCISE>
             "Refuse SCRIPT unless it is EXERCISE, with one word for each `?`"))?
         .arg(arg!(in alloc; --count
@@ -88,13 +94,14 @@ fn run<'a>(alloc: Global) -> Result<Command<'a>, AllocError>
         .arg(arg!(in alloc; <CONFIG> "The file of its configuration"))
 }
 
-/// `ctl PATH COMMAND [WHAT] [VALUE] [PORT]`.
+/// `ctl [--json] PATH COMMAND [WHAT] [VALUE] [PORT]`.
 fn ctl<'a>(alloc: Global) -> Result<Command<'a>, AllocError>
     ensures { IfOk result (λ c. IsCommand c ctl_command) }
 {
     Command::new(alloc, "ctl")
         .about("Ask or change a running router")
         .after_help(help::CTL)
+        .arg(arg!(in alloc; --json "With `status`: print it as a line of JSON"))?
         .arg(arg!(in alloc; <PATH> "The socket that `run --control` listens at"))?
         .arg(arg!(in alloc; <COMMAND> "The command, such as `routes` or `cost`"))?
         .arg(arg!(in alloc; [WHAT] "An interface or a prefix"))?
