@@ -3,9 +3,9 @@
 
 ghost use Rattle.std.specs.Prelude.{◌≡◌, ◌⊎◌, ◌≤◌, [], Ok, Option, Some, false, length, take, true};
 ghost use Rattle.ripng_world.specs.Labs.{LabValue};
-ghost use Rattle.ripngd_trace.specs.Scripts.{IsScriptTraced};
+ghost use Rattle.ripng_trace.specs.Scripts.{IsScriptTraced};
 
-use ripngd_trace::trace;
+use ripng_trace::trace;
 use std::alloc::Global;
 use std::io;
 

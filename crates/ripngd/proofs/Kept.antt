@@ -6,6 +6,7 @@ use Rattle.ripngd_command_line.specs.declared.asked.Ask.TheVariants as asks
 use Rattle.ripngd_command_line.specs.declared.asked.Job.{Job}
 use Rattle.ripngd_command_line.specs.declared.asked.Job.TheVariants as jobs
 use Rattle.ripngd_daemon.specs.declared.history.History.{History}
+use Rattle.ripng_lab_numbers.specs.Running.{WritesLines}
 use Rattle.ripngd.specs.Exit.{AnswersAsk, AnswersJob}
 
 -- what was appended stays
@@ -14,6 +15,11 @@ appends_kept text None mid new wrote kept = tt
 appends_kept text (Some xs) None new wrote kept = absurd wrote
 appends_kept text (Some xs) (Some ys) None wrote kept = absurd kept
 appends_kept text (Some xs) (Some ys) (Some zs) wrote kept = kept ∙ wrote
+
+-- so do lines of numbers, and what stands behind them
+lines_kept : (done : Bool) (lines : List ℕ) (old mid new : Option (List ℕ)) → WritesLines done old mid lines → Keeps mid new → WritesLines done old new lines
+lines_kept true lines old mid new wrote kept = appends_kept lines old mid new wrote kept
+lines_kept false lines old mid new (rest, wrote) kept = (rest, appends_kept _ old mid new wrote kept)
 
 -- whatever was asked
 pub answer_kept : (holds : List ℕ → List ℕ → Type 0) (history : History) (ask : Ask) (accepted : Bool) (old mid new : Option (List ℕ))
@@ -41,3 +47,6 @@ pub job_kept : (holds : List ℕ → List ℕ → Type 0) (history : History) (j
 job_kept holds history (jobs.Ask ask) accepted old mid new answer kept = answer_kept holds history ask accepted old mid new answer kept
 job_kept holds history (jobs.ShowCapture file) accepted old mid new answer kept = answer
 job_kept holds history (jobs.LabCapture capturing) accepted old mid new answer kept = answer
+job_kept holds history (jobs.LabNumbers numbering) accepted old mid new (script, held, seconds, are, numbers) kept =
+    (script, held, seconds, are, record { end = numbers.end; counted = numbers.counted; names = numbers.names; written = lines_kept accepted _ old mid new numbers.written kept })
+job_kept holds history (jobs.LabSeeds sweep) accepted old mid new answer kept = answer

@@ -1,5 +1,5 @@
 -- What the exit statuses of ripngd mean (they are this project's choice).
-use Rattle.std.specs.Prelude.{◌≡◌, ◌≢◌, ◌⊎◌, ℕ, Bool, IfSome, List, [], Option, ⊤}
+use Rattle.std.specs.Prelude.{◌≡◌, ◌≢◌, ◌⊎◌, ℕ, Bool, IfSome, List, [], Option, Some, is_some, ⊤}
 use Rattle.std.specs.Io.KnownBytes.{Appends}
 use Rattle.clap.specs.Faults.{fault_of}
 use Rattle.clap.specs.Kinds.{IsAmong}
@@ -10,6 +10,7 @@ use Rattle.ripngd_command_line.specs.declared.asked.Ask.TheVariants as asks
 use Rattle.ripngd_command_line.specs.declared.asked.Job.{Job}
 use Rattle.ripngd_command_line.specs.declared.asked.Job.TheVariants as jobs
 use Rattle.ripngd_command_line.specs.declared.asked.Marking.{Marking}
+use Rattle.ripngd_command_line.specs.declared.asked.Numbering.{Numbering}
 use Rattle.ripngd_daemon.specs.declared.failure.Failure.{Failure}
 use Rattle.ripngd_daemon.specs.declared.history.History.{History}
 use Rattle.ripngd_daemon.specs.declared.failure.Failure.TheVariants as failures
@@ -20,7 +21,8 @@ use Rattle.ripngd_command_line.specs.CommandLine.{ripngd}
 use Rattle.ripngd_daemon.specs.Failing.{MayFail}
 use Rattle.ripngd_daemon.specs.Run.{IsRan}
 use Rattle.ripngd_daemon.specs.Tabled.{IsTabled}
-use Rattle.ripngd_show.specs.Shown.{IsShown}
+use Rattle.ripng_lab_numbers.specs.Running.{AreNumbers}
+use Rattle.ripng_show.specs.Shown.{IsShown}
 
 -- there is a text that the file of a script may hold; and one of the exercise, if there is one
 abbrev pub AreHeld : (List ℕ → List ℕ → Type 0) → Marking → Type 0
@@ -44,18 +46,28 @@ AnswersAsk holds history (asks.Ctl question) accepted old new = (answer : List �
 AnswersAsk holds history (asks.Table file) accepted old new = (log : List ℕ) × holds file.now log
     × (text : List ℕ) × IsTabled log accepted text × Appends old new text
 
--- the same of a job. What is shown of a capture, and what it has of a script, is not said here
+-- the bytes of a writer grew by the numbers of a script that the file which is asked about may hold, by intervals
+abbrev pub AnswersNumbers : (List ℕ → List ℕ → Type 0) → Numbering → Bool → Option (List ℕ) → Option (List ℕ) → Type 0
+AnswersNumbers holds numbering accepted old new =
+    (script : List ℕ) × holds numbering.script.now script × (seconds : ℕ) × (numbering.seconds ≡ Some seconds)
+    × AreNumbers script seconds (is_some numbering.by) accepted old new
+
+-- the same of a job. What is shown of a capture, what it has of a script, and the lines of a sweep are not said here
 abbrev pub AnswersJob : (List ℕ → List ℕ → Type 0) → History → Job → Bool → Option (List ℕ) → Option (List ℕ) → Type 0
 AnswersJob holds history (jobs.Ask ask) accepted old new = AnswersAsk holds history ask accepted old new
 AnswersJob holds history (jobs.ShowCapture file) accepted old new = (capture : List ℕ) × holds file.now capture
 AnswersJob holds history (jobs.LabCapture capturing) accepted old new = (script : List ℕ) × holds capturing.script.now script
+AnswersJob holds history (jobs.LabNumbers numbering) accepted old new = AnswersNumbers holds numbering accepted old new
+AnswersJob holds history (jobs.LabSeeds sweep) accepted old new = (script : List ℕ) × holds sweep.script.now script
 
--- what may fail where this is the job: of a capture its files, what is printed, or memory
+-- what may fail where this is the job: a file of it, what is printed, or memory
 abbrev pub JobMayFail : Job → Failure → Type 0
 JobMayFail (jobs.Ask ask) failure = MayFail ask failure
 JobMayFail (jobs.ShowCapture shown) (failures.Read file cause) = file.now ≡ shown.now
 JobMayFail (jobs.LabCapture capturing) (failures.Read file cause) = file.now ≡ capturing.script.now
 JobMayFail (jobs.LabCapture capturing) (failures.Log file cause) = file.now ≡ capturing.capture.now
+JobMayFail (jobs.LabNumbers numbering) (failures.Read file cause) = file.now ≡ numbering.script.now
+JobMayFail (jobs.LabSeeds sweep) (failures.Read file cause) = file.now ≡ sweep.script.now
 JobMayFail job failures.Output = ⊤
 JobMayFail job failures.OutOfMemory = ⊤
 JobMayFail job failure = ⊥

@@ -1,18 +1,19 @@
 //! The whole program, on two writers: each subcommand, and its exit status.
 
-ghost use Rattle.std.specs.Prelude.{◌≡◌, ◌≢◌, ◌⊎◌, ◌≤◌, ℕ, IfErr, IfOk, List, Ok, OnOk, false, map, true};
+ghost use Rattle.std.specs.Prelude.{◌≡◌, ◌≢◌, ◌⊎◌, ◌≤◌, ℕ, IfErr, IfOk, List, None, Ok, OnOk, false, map, true};
 ghost use Rattle.clap.specs.Words.{kind_of};
-ghost use Rattle.ripngd.specs.Exit.{AnswersAsk, AnswersJob, AnswersWords, AreHeld, AsksForHelp, FailsWords, HaveFault, JobMayFail, holds_any};
+ghost use Rattle.ripngd.specs.Exit.{AnswersAsk, AnswersJob, AnswersNumbers, AnswersWords, AreHeld, AsksForHelp, FailsWords, HaveFault, JobMayFail, holds_any};
+ghost use Rattle.ripngd_command_line.specs.Asked.{IsMisused};
 ghost use Rattle.ripngd_daemon.specs.Failing.{MayFail};
 
-use crate::subcommands::{capture, explain, mark, trace};
+use crate::subcommands::{capture, explain, mark, numbers, sweep, trace};
 use clap::error::ErrorKind;
-use ripngd_command_line::{Ask, Capturing, Job, Marking, ask, misuse_of};
+use ripng_show::{PrintFault, show, show_capture};
+use ripngd_command_line::{Ask, Capturing, Job, Marking, Numbering, Sweep, ask, misuse_of};
 use ripngd_daemon::{
     Failure, FileCause, FileSource, History, System, SystemFiles, check_file, ctl, run, table_file,
     write_failure, write_losses,
 };
-use ripngd_show::{PrintFault, show, show_capture};
 use std::alloc::Global;
 use std::fs;
 use std::io::{self, Write};
@@ -37,7 +38,7 @@ pub(crate) enum Status {
 /// - 0: done. Help and the version are written to `out`.
 /// - 1: the datagram, the configuration, or a line of the script or the log is refused, and a line on `out` says why. A line on `err`
 ///   may have a hint for the line of a script, or the place of the fault of a configuration.
-/// - 2: usage error, also `--append` without a file and a number with a sign. `err` gets the message.
+/// - 2: usage error, also one that only `misuse_of` finds, as `--append` without a file. `err` gets the message.
 /// - 3: a failure, with a line on `err`: `ripngd: cannot read FILE`, `ripngd: cannot write FILE` (`stdout` for `out`), `ripngd: cannot
 ///   bind PORT`, `ripngd: link fault after N turns` or `ripngd: out of memory`, and others, with the cause if it is known. Nothing is
 ///   written for an `out` that nobody reads any more.
@@ -107,6 +108,7 @@ fn accepts<'a, R: System, F: FileSource, O: Write, E: Write>(
     out: &mut O,
     err: &mut E,
 ) -> Result<bool, Failure<'a>>
+    requires { ¬ (IsMisused job) }
     ensures answered { IfOk result (λ accepted. AnswersJob (F.holds files.now) history.new job.entry accepted
         (O.contents out.old) (O.contents out.new)) }
     ensures failed { IfErr result (JobMayFail job.entry) }
@@ -118,7 +120,50 @@ fn accepts<'a, R: System, F: FileSource, O: Write, E: Write>(
             Ok(show_capture(rt.alloc(), capture.as_slice(), out)?)
         }
         Job::LabCapture(capturing) => capture_file(rt, files, capturing, out, err),
+        Job::LabNumbers(numbering) => number_file(rt.alloc(), files, numbering, out, err),
+        Job::LabSeeds(asked) => sweep_file(rt.alloc(), files, asked, out, err),
     }
+}
+
+/// Runs the script of a file, writes its numbers by intervals, and returns whether every line was done.
+fn number_file<'a, F: FileSource, O: Write, E: Write>(
+    alloc: Global,
+    files: &F,
+    numbering: Numbering<'a>,
+    out: &mut O,
+    err: &mut E,
+) -> Result<bool, Failure<'a>>
+    requires { numbering.seconds ≢ None }
+    ensures answered { IfOk result (λ accepted. AnswersNumbers (F.holds files.now) numbering.entry accepted
+        (O.contents out.old) (O.contents out.new)) }
+    ensures failed { IfErr result (JobMayFail (Job.LabNumbers numbering.entry)) }
+{
+    let Some(seconds) = numbering.seconds else {
+        unreachable!()
+    };
+    let by_router = numbering.by.is_some();
+    let script = files.read(numbering.script)?;
+    Ok(numbers(alloc, script.as_slice(), seconds, by_router, out, err)?)
+}
+
+/// Runs the script of a file with one seed after another, writes the numbers of each run, and returns whether every line was done each
+/// time.
+fn sweep_file<'a, F: FileSource, O: Write, E: Write>(
+    alloc: Global,
+    files: &F,
+    asked: Sweep<'a>,
+    out: &mut O,
+    err: &mut E,
+) -> Result<bool, Failure<'a>>
+    requires { asked.seeds ≢ None }
+    ensures held { OnOk result ((script : List ℕ) × F.holds files.now asked.entry.script.now script) }
+    ensures failed { IfErr result (JobMayFail (Job.LabSeeds asked.entry)) }
+{
+    let Some(seeds) = asked.seeds else {
+        unreachable!()
+    };
+    let script = files.read(asked.script)?;
+    Ok(sweep(alloc, script.as_slice(), seeds, out, err)?)
 }
 
 /// Runs the script of a file, writes what it prints, and then the file of its capture, and returns whether every line was done.
@@ -192,7 +237,7 @@ fn accepts_ask<'a, R: System, F: FileSource, O: Write, E: Write>(
         Ask::Check(file) => check_file(rt.alloc(), files, file, out, err),
         Ask::Lab(file) => {
             let script = files.read(file)?;
-            let done = ripngd_lab::lab_hinted(rt.alloc(), script.as_slice(), out, err);
+            let done = ripng_lab::lab_hinted(rt.alloc(), script.as_slice(), out, err);
             Ok(done.map_err(PrintFault::from)?)
         }
         Ask::Mark(marking) => mark_files(rt.alloc(), files, marking, out, err),
@@ -234,6 +279,7 @@ fn answer<'a, R: System, F: FileSource, O: Write, E: Write>(
     out: &mut O,
     err: &mut E,
 ) -> Result<Status, Failure<'a>>
+    requires { ¬ (IsMisused job) }
     ensures done { result ≡ Ok Status.Done
         → AnswersJob (F.holds files.now) history.new job.entry true (O.contents out.old) (O.contents out.new) }
     ensures refused { result ≡ Ok Status.Refused

@@ -1,0 +1,10 @@
+pub mod Doing
+pub mod Exercises
+pub mod Handing
+pub mod Healed
+pub mod Passed
+pub mod Planning
+pub mod Saying
+pub mod ScriptWatching
+pub mod Waving
+pub mod Words

@@ -1,0 +1,14 @@
+pub mod Asides
+pub mod Asking
+pub mod Below
+pub mod Common
+pub mod Counting
+pub mod Doing
+pub mod Exercises
+pub mod Expecting
+pub mod Healing
+pub mod Passing
+pub mod Phasing
+pub mod Plans
+pub mod ScriptWatching
+pub mod Scripts

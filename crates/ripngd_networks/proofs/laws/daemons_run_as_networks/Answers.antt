@@ -1,5 +1,0 @@
-use Rattle.ripngd_networks.proofs.Running.{run_of}
-use Rattle.ripngd_networks.proofs.laws.daemons_run_as_networks.Goals as goal
-
-pub returns : goal.returns
-returns c = run_of

@@ -1,6 +1,0 @@
-use Rattle.ripngd_trace.specs.Json.{json_of_offer}
-use Rattle.ripngd_trace.proofs.to_json.records.OfferRecordToJson.write_json.Goals as goal
-
-pub returns : goal.returns
-unfolding json_of_offer
-returns c = rw (← c.name.ensures) c.object.ensures
