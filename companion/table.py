@@ -17,6 +17,7 @@ class Fault(Exception):
 
 # What is nobody's to route: an address of IPv4 in the bits of IPv6, with ::1 and :: among them (RFC 4291, 2.5.2, 2.5.3 and 2.5.5).
 MARTIANS = ["::/96+", "::ffff:0:0/96+"]
+DEFAULT = "::/0"
 
 
 @dataclass
@@ -37,6 +38,7 @@ class Link:
     passive: bool = False
     announce: list[str] = field(default_factory=list)
     announce_not: list[str] = field(default_factory=list)
+    default_originate: bool = False
 
     @property
     def is_pattern(self):
@@ -132,6 +134,22 @@ def refuse_twice(names, place):
         seen.add(name)
 
 
+def tell_of_a_default(table):
+    """Where a link is to be told a default route, the router owns ::/0, and no other link is told it."""
+    if not any(link.default_originate for link in table.link):
+        return
+    if DEFAULT not in [owned.prefix for owned in table.prefix]:
+        table.prefix.append(Owned(DEFAULT))
+    for number, link in enumerate(table.link):
+        hidden = {DEFAULT, DEFAULT + "+"} & set(link.announce_not)
+        if not link.default_originate:
+            link.announce_not += [] if hidden else [DEFAULT]
+        elif hidden:
+            raise Fault(f"link[{number}]: default_originate is true, and announce_not has {hidden.pop()}")
+        elif link.announce and DEFAULT not in link.announce:
+            link.announce += [DEFAULT]
+
+
 def checked(table):
     """The table with its links and prefixes as records."""
     table.link = [made(Link, words, f"link[{number}].") for number, words in enumerate(table.link)]
@@ -143,6 +161,7 @@ def checked(table):
     for number, owned in enumerate(table.prefix):
         owned.prefix = str(prefix_of(owned.prefix, f"prefix[{number}].prefix"))
     refuse_twice([owned.prefix for owned in table.prefix], "prefix[{}].prefix")
+    tell_of_a_default(table)
     refuse_twice([link.device for link in table.link], "link[{}].device")
     spoken = sum(not link.stub for link in table.link)
     if spoken == 0:

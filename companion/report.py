@@ -10,10 +10,12 @@ from journal import log
 from shape import ENTRIES, PACKETS, empty
 from system import UP
 
-# Lines of `ctl status`: of an interface, of what was refused, and of a neighbor. The words of others are in pairs.
-INTERFACE = re.compile(r"interface (\d+) .*?\bmtu (\d+)")
+# Lines of `ctl status`: of an interface, of what was refused there or of a neighbor, and of a neighbor. The words of others are in pairs.
+INTERFACE = re.compile(r"interface (\d+) address \S+ (.*)")
 REFUSED = re.compile(r"(?:refused|noted) \d+ (\w+) (\d+)")
 NEIGHBOR = re.compile(r"(?:iface (\d+) from (\S+)|others) (arrivals .*)")
+# Words of an interface that have another name in the shape.
+NAMES = {"triggered": "triggered_updates", "answers": "queued_answers"}
 # Reasons that are the operator's.
 FILTERED = {"NotAccepted": "not_accepted", "LimitReached": "limit_reached"}
 
@@ -31,7 +33,7 @@ def of_router(lines):
     now = whole
     for line in lines:
         if found := INTERFACE.match(line):
-            interfaces[int(found[1])] = {"mtu": int(found[2])}
+            now = interfaces[int(found[1])] = numbers(found[2]) | {"refused": {}}
         elif found := REFUSED.fullmatch(line):
             now["refused"][found[1]] = int(found[2])
         elif found := NEIGHBOR.fullmatch(line):
@@ -39,7 +41,7 @@ def of_router(lines):
         elif line == "log failed":
             whole["log_failed"] = True
         else:
-            words = numbers(line)
+            now, words = whole, numbers(line)
             whole |= {f"lost_{word}": number for word, number in words.items()} if line.startswith("lost ") else words
     return whole, interfaces, neighbors
 
@@ -58,12 +60,23 @@ def sums(refused):
     return summed | {key: refused.get(name, 0) for name, key in FILTERED.items()}
 
 
-def of_neighbor(counted, address, routes, now):
-    """One neighbor."""
-    known = counted | {"address": address, "routes": routes} | sums(counted["refused"])
+def of_counts(counted, now):
+    """What is counted of a neighbor, or at an interface."""
+    known = {NAMES.get(word, word): number for word, number in counted.items()} | sums(counted["refused"])
     if "last" in counted and counted.get("responses"):
         known["response_seconds_ago"] = round((now - counted["last"]) / 1000, 1)
-    return filled("links[].neighbors[].", known)
+    return known
+
+
+def of_neighbor(counted, address, routes, now):
+    """One neighbor."""
+    return filled("links[].neighbors[].", of_counts(counted, now) | {"address": address, "routes": routes})
+
+
+def put_counts(link, counted, now):
+    """Puts what the router counts at an interface, also of senders that have no line any more, into what is known of its link."""
+    known = {key: value for key, value in of_counts(counted, now).items() if key in link}
+    link |= known | {"refused": link["refused"] | known["refused"]}
 
 
 def of_link(words, state, link, now):
@@ -85,14 +98,12 @@ def join(told, lines, forwarding):
         number = link["interface"]
         if number is None:
             continue
-        link |= interfaces.get(number, {}) | {"routes": by_link[number]}
+        if number in interfaces:
+            put_counts(link, interfaces[number], whole.get("now", 0))
+        link["routes"] = by_link[number]
         for (there, address), counted in neighbors.items():
             if there == number:
                 link["neighbors"].append(of_neighbor(counted, address, hops[number, address], whole.get("now", 0)))
-        for key in ("arrivals", "responses", "bad_packets", "bad_routes"):
-            link[key] = sum(one[key] for one in link["neighbors"])
-        for rule, key in FILTERED.items():
-            link[key] = sum(one["refused"][rule] for one in link["neighbors"])
     return told
 
 

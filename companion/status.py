@@ -74,6 +74,9 @@ def of_link(link):
         words.append(f"cost {link['cost']}")
         words += [f"mtu {link['mtu']}"] if link["mtu"] else []
     yield ", ".join(words)
+    if link["queued"] is not None:
+        names = ("triggered_updates", "queued", "queued_answers", "bad_packets", "bad_routes")
+        yield "  " + ", ".join(f"{name.replace('_', ' ')} {link[name]}" for name in names)
     for one in link["neighbors"]:
         ago = f"last Response {one['response_seconds_ago']:.0f} s ago, " if one["response_seconds_ago"] is not None else ""
         yield f"  neighbor {one['address']}, {ago}{one['routes']} routes"

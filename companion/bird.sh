@@ -1,7 +1,7 @@
 #!/usr/bin/env bash
 # A neighbor to try ripngd-links with: BIRD in a name space of this machine, at the other end of a cable, `ripng0`.
 #
-#     links/bird.sh [up|down]
+#     companion/bird.sh [up|down]
 #
 # BIRD owns 2001:db8:b::/48. Needs root, iproute2 and BIRD 2 (packages of the system). SPACE=NAME names the name space.
 set -eu
@@ -22,7 +22,7 @@ case ${1:-up} in
         ip netns del "$space"
         ;;
     *)
-        echo "links/bird.sh [up|down]" >&2
+        echo "companion/bird.sh [up|down]" >&2
         exit 2
         ;;
 esac
