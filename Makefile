@@ -88,17 +88,17 @@ for_units = -e 's|@bindir@|$(bindir)|' -e 's|@linksdir@|$(linksdir)|' -e 's|@unp
 # `bindir` has a link to it.
 install: proved
 	$(INSTALL) -d $(DESTDIR)$(bindir) $(DESTDIR)$(mandir)/man8 $(DESTDIR)$(unitdir) $(DESTDIR)$(linksdir)
-	$(INSTALL) -d $(addprefix $(DESTDIR)$(docdir)/,$(folders) links)
+	$(INSTALL) -d $(addprefix $(DESTDIR)$(docdir)/,$(folders) companion)
 	$(INSTALL) -m 755 $(PROGRAM) $(DESTDIR)$(bindir)/ripngd
 	rm -f $(DESTDIR)$(linksdir)/ripngd.proved
 	$(if $(UNPROVED),,$(INSTALL) -m 644 $(PROGRAM).proved $(DESTDIR)$(linksdir)/ripngd.proved)
-	$(INSTALL) -m 644 links/*.py $(DESTDIR)$(linksdir)
-	$(INSTALL) -m 755 links/ripngd-links $(DESTDIR)$(linksdir)
+	$(INSTALL) -m 644 companion/*.py $(DESTDIR)$(linksdir)
+	$(INSTALL) -m 755 companion/ripngd-links $(DESTDIR)$(linksdir)
 	ln -sfr $(DESTDIR)$(linksdir)/ripngd-links $(DESTDIR)$(bindir)/ripngd-links
 	$(INSTALL) -m 644 docs/ripngd.8 docs/ripngd-links.8 $(DESTDIR)$(mandir)/man8
 	$(INSTALL) -m 644 README.md $(DESTDIR)$(docdir)
 	$(if $(UNPROVED),,ln -sfr $(DESTDIR)$(linksdir)/ripngd.proved $(DESTDIR)$(docdir))
-	$(INSTALL) -m 755 links/bird.* $(DESTDIR)$(docdir)/links
+	$(INSTALL) -m 755 companion/bird.* $(DESTDIR)$(docdir)/companion
 	for folder in $(folders); do $(INSTALL) -m 644 $$folder/*.* $(DESTDIR)$(docdir)/$$folder || exit; done
 	for unit in ripngd@ ripngd-links@; do sed $(for_units) docs/$$unit.service > $(DESTDIR)$(unitdir)/$$unit.service || exit; done
 

@@ -36,7 +36,7 @@ class Router:
 class Ripngd(Router):
     """This repository's, by its companion."""
 
-    program, companion = ROOT / "bin/ripngd", ROOT / "links/ripngd-links"
+    program, companion = ROOT / "bin/ripngd", ROOT / "companion/ripngd-links"
 
     def start(self):
         lines = ['user = "nobody"', f'program = "{self.program}"', f'folder = "{self.folder / "run"}"']

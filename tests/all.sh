@@ -15,10 +15,10 @@ folder=$(mktemp -d)
 trap 'rm -rf "$folder"' EXIT
 
 # What stands behind a colon is given to the suite, too. Only `links.sh` is so long that the others do not wait for it.
-moments="asking.py sending.py neighbors.py control.py sockets.py inherited.py watching.py premises.py bench.py"
+moments="asking.py sending.py neighbors.py control.py clients.py sockets.py inherited.py watching.py premises.py bench.py"
 # The longest first.
 others="marked.py page.py:chromium page.py:firefox page.py:modules rows.py growth.py growth_of_calls.py cases.py lab_file.py mutated.py hints.py scripts.py
-pages.py paths.py capture.py topologies.py gate.py"
+pages.py paths.py capture.py topologies.py numbers.py shares.py large.py gate.py"
 
 # `arguments SUITE`: which of the two programs a suite is given, and its word.
 arguments() {

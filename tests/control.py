@@ -1,5 +1,5 @@
 #!/usr/bin/env python3
-"""A router that runs is asked and told at its control socket: what it answers, what comes of it, and who may connect.
+"""A router that runs is asked and told at its control socket: what it answers, and what comes of it.
 
     tests/control.py PROGRAM [NAME..]
 
@@ -7,21 +7,16 @@ A line for each case that fails, and last how many passed."""
 
 import os
 import re
-import stat
-import subprocess
 import sys
-import time
-from errno import EAGAIN, ECONNABORTED, ECONNRESET, EINTR, EIO, EMFILE, EPIPE
 
 sys.dont_write_bytecode = True
-from daemons import interface, listed, main, peer, prefix, Router, SECONDS, until
-from datagrams import entry, feed, response, table
-from ordered import calls, environment
+from daemons import interface, listed, main, peer, prefix, Router, until
+from datagrams import entry, feed, request, response, table
+from ordered import environment
 from suite import same
+from talking import alone, answers, OWN, OWN_TABLE, plain, refuses
 
-ROUTES = int(os.environ.get("ROUTES", 20_000))
-EAST, WEST, OWN = "2001:db8:e::/48", "2001:db8:f::/48", "2001:db8::/32"
-OWN_TABLE = f"{OWN} metric 1 direct\n"
+EAST, WEST = "2001:db8:e::/48", "2001:db8:f::/48"
 
 
 def pair(case):
@@ -32,28 +27,6 @@ def pair(case):
     east.logs(f"add {WEST} metric 2 via fe80::f iface 0")
     west.logs(f"add {EAST} metric 2 via fe80::e iface 0")
     return east, west
-
-
-def alone(case, name="alone", *words, **environment):
-    """A router that listens, with a neighbor that is not there."""
-    return case.listening(name, interface(1, case.port(), peer(2, case.port())) + prefix(OWN), *words, **environment)
-
-
-def plain(text):
-    """An answer without its times and its counts of what time makes."""
-    for pattern, word in ((r" live \d+", " live T"), (r"arrivals \d+ sends \d+", "arrivals A sends S"), (r" last \d+$", " last T")):
-        text = re.sub(pattern, word, text, flags=re.M)
-    return text
-
-
-def answers(router, words, out="", status=0):
-    """That the router answers so, and nothing is said on standard error."""
-    answer = router.ctl(*words.split())
-    same(f"the answer to {words}", (answer.status, plain(answer.out), answer.err), (status, out, ""))
-
-
-def refuses(router, words, why):
-    answers(router, words, f"refused {why}\n", 1)
 
 
 @listed
@@ -90,11 +63,74 @@ def a_router_says_how_it_is(case):
     told = east.ctl("status")
     same("status and standard error", (told.status, told.err), (0, ""))
     first, second, rest = told.out.split("\n", 2)
-    same("the interface", first, "interface 0 address fe80::e cost 1 mtu 1280")
+    counted = r"interface 0 address fe80::e cost 1 mtu 1280 triggered [1-9]\d* queued 0 answers 0 arrivals [1-9]\d* responses [1-9]\d* entries [1-9]\d* last \d+"
+    same(f"whether `{first}` is the interface", re.fullmatch(counted, first) is not None, True)
     same("whether it has a clock and two routes", re.fullmatch(r"now [1-9]\d* routes 2", second) is not None, True)
     *counts, asked = east.ctl("counts").out.splitlines(True)
     said = "".join(counts) + east.ctl("neighbors").out + asked
     same("the rest, but for numbers", re.sub(r"\d+", "N", rest), re.sub(r"\d+", "N", said))
+
+
+@listed
+def a_router_counts_triggered_updates_by_link(case):
+    """Updates, and not the datagrams of one; no regular one, and no answer. Routes that come while updates are held go out in the next."""
+    first, second, ports = case.neighbor(), case.neighbor(), (case.port(), case.port())
+    router = case.listening("triggered", interface(1, ports[0], peer(2, first.port)) + interface(3, ports[1], peer(4, second.port)) + prefix(OWN))
+    until("its first update, a regular one", lambda: is_update(second.receive()[0]))
+    same("triggered updates before a change", triggered(router), [0, 0])
+    first.send(ports[0], response(*(entry(f"2001:db8:{number:x}::/48", 1) for number in range(60))))
+    until("the first one", lambda: is_update(second.receive()[0]))
+    for more in range(1, 4):
+        first.send(ports[0], response(*(entry(f"2001:db8:{more:x}{number:02x}::/48", 1) for number in range(60))))
+    until("three datagrams of one", lambda: is_update(second.receive()[0]) and is_update(second.receive()[0]) and is_update(second.receive()[0]))
+    second.send(ports[1], request(entry("::/0", 16)))
+    until("an answer", lambda: is_update(second.receive()[0]))
+    same("triggered updates", triggered(router), [2, 2])
+
+
+def triggered(router):
+    """How many triggered updates a router has sent on each link."""
+    return [int(found) for found in re.findall(r"^interface .* triggered (\d+) ", router.ctl("status").out, re.M)]
+
+
+@listed
+def what_waits_is_told_by_link(case):
+    """At a clock that stands still a link takes 64 datagrams at once, and no more, and a triggered update waits for a second that never
+    comes. Two neighbors ask for 10,000 routes: all datagrams of the second answer wait behind those of the first. Then a Request, which
+    is no answer. Nothing waits on the other link."""
+    first, second, ports = case.neighbor(), case.neighbor(), (case.port(), case.port())
+    links = interface(1, ports[0], peer(2, first.port), peer(4, second.port)) + interface(3, ports[1])
+    router = case.listening("waits", links, "-R", "waits.log", **environment(case.folder, "waits", clock="still"))
+    feed(first, ports[0], table("e", 10_000))
+    until("the whole table", lambda: router.log().count(" metric 2 ") == 10_000)
+    whole = -(-10_000 // ((1280 - 40 - 8 - 4) // 20))
+
+    def waits():
+        return [(int(all_), int(answers_)) for all_, answers_ in re.findall(r"^interface .* queued (\d+) answers (\d+) ", router.ctl("status").out, re.M)]
+
+    first.send(ports[0], request(entry("::/0", 16)))
+    answer = until("an answer", lambda: waits()[0][1])
+    same(f"whether {answer} of it wait", whole - 64 < answer < whole, True)
+    same("on both links", waits(), [(answer, answer), (0, 0)])
+    second.send(ports[0], request(entry("::/0", 16)))
+    until("another one", lambda: waits() == [(answer + whole, answer + whole), (0, 0)])
+    answers(router, "link up 0")
+    until("a Request behind both", lambda: waits() == [(answer + whole + 1, answer + whole), (0, 0)])
+
+
+@listed
+def what_is_refused_is_counted_by_link(case):
+    """Also of senders that have no line: the last six of 70 on one link. Another link has none of it."""
+    ports, senders = (case.port(), case.port()), [case.neighbor() for _ in range(70)]
+    peers = [peer(f"1:{number:x}", one.port) for number, one in enumerate(senders)]
+    router = case.listening("refused", interface(1, ports[0], *peers) + interface(3, ports[1]))
+    for one in senders:
+        one.send(ports[0], b"\2\1")
+    senders[69].send(ports[0], response(entry(OWN, 17)))
+    told = lambda: re.search(r"^interface 0 .* (arrivals .*\n(?:refused|noted) (?:.*\n)*?)interface 1 .* (arrivals .*\n)now ", router.ctl("status").out, re.M)
+    until("all of them", lambda: told() and told()[1].startswith("arrivals 71 "))
+    same("of the link", plain(told()[1]), "arrivals 71 responses 1 entries 1 last T\nrefused 1 Short 70\nnoted 22 BadMetric 1\n")
+    same("of the other", told()[2], "arrivals 0 responses 0 entries 0\n")
 
 
 @listed
@@ -232,204 +268,6 @@ def a_router_looks_up_an_address(case):
     answers(router, "lookup 2001:db9::1", "no route\n")
     answers(router, "gain ::/0 7")
     answers(router, "lookup 2001:db9::1", "::/0 metric 1 direct\n")
-
-
-@listed
-def a_router_that_is_not_told_to_listens_nowhere(case):
-    router = case.start("closed", interface(1, case.port()))
-    links = [os.readlink(f"/proc/{router.process.pid}/fd/{name}") for name in os.listdir(f"/proc/{router.process.pid}/fd")]
-    same("the number of its sockets", len([link for link in links if link.startswith("socket:")]), 1)
-
-
-@listed
-def a_socket_of_a_router_that_is_gone_is_replaced(case):
-    gone = alone(case, "gone")
-    gone.end()
-    same("whether a socket is left", stat.S_ISSOCK(os.stat(gone.path()).st_mode), True)
-    answers(alone(case, "gone"), "table", OWN_TABLE)
-
-
-@listed
-def a_socket_at_which_somebody_answers_is_not_replaced(case):
-    """A second start at it fails, with its log as it was, and disturbs nobody."""
-    router = alone(case, "first")
-    case.file("second.toml", interface(1, case.port()))
-    case.file("second.log", "kept\n")
-    second = case.run("run", "--control", "first.sock", "--turns", "1", "-R", "second.log", "second.toml")
-    same("the second start", second, (3, "", "ripngd: cannot listen at first.sock: somebody answers there\n"))
-    same("its log", case.read("second.log"), "kept\n")
-    answers(router, "table", OWN_TABLE)
-
-
-@listed
-def a_file_that_another_has_made_since_is_left(case):
-    """A router takes away its own socket alone at its end."""
-    router = alone(case, "moved")
-    client = router.client()
-    os.unlink(router.path())
-    case.file("moved.sock", "kept\n")
-    client.say(b"stop\n")
-    same("status", router.finish(), 0)
-    same("the file", case.read("moved.sock"), "kept\n")
-
-
-@listed
-def what_is_no_socket_is_left(case):
-    case.file("alone.toml", interface(1, case.port()))
-    case.file("alone.sock", "kept\n")
-    started = case.run("run", "--control", "alone.sock", "--turns", "1", "alone.toml")
-    same("the start", started, (3, "", "ripngd: cannot listen at alone.sock\n"))
-    same("the file", case.read("alone.sock"), "kept\n")
-
-
-def started_under(case, mask):
-    """A router that makes one turn at a socket, started under a mask."""
-    words = ["bash", "-c", f'umask {mask}; exec "$0" run --control open.sock --turns 1 open.toml', case.program]
-    case.file("open.toml", interface(1, case.port()))
-    done = subprocess.run(words, cwd=case.folder, capture_output=True, text=True, timeout=SECONDS)
-    same("whether its socket is still there", os.path.exists(f"{case.folder}/open.sock"), False)
-    return done.returncode, done.stdout, done.stderr
-
-
-@listed
-def a_socket_that_others_may_write_to_is_refused(case):
-    refused = (3, "", "ripngd: cannot listen at open.sock: others may write to it; start under umask 077\n")
-    for mask in ("000", "002", "020", "075", "057"):
-        same(f"the start under {mask}", started_under(case, mask), refused)
-    for mask in ("022", "077", "033"):
-        same(f"the start under {mask}", started_under(case, mask), (0, "", "ripngd: running, 1 interface\n"))
-
-
-@listed
-def clients_are_served_one_after_the_other(case):
-    """Each is told what it asks, once its line is whole, and its connection then ends; what stands behind the line is not done."""
-    router = alone(case)
-    first, second = router.client(), router.client()
-    second.say(b"table\n")
-    first.say(b"ta")
-    time.sleep(0.3)
-    first.say(b"ble\nstop\n")
-    same("the first answer", first.all(), f"{OWN_TABLE}ok\n")
-    same("the second answer", second.all(), f"{OWN_TABLE}ok\n")
-    same("the answer to two lines", router.client().say(b"counts\nstop\n").all()[-3:], "ok\n")
-    same("whether it runs", router.is_there(), True)
-
-
-@listed
-def what_is_no_command_is_refused(case):
-    router = alone(case)
-    refused = "refused 52 NoSuchCommand\n"
-    for said in (bytes(range(256)), b"\n", b" table\n", b"table \n", b"TABLE\n", b"gain 2001:DB8::/48 1\n", b"cost 00 1\n"):
-        same(f"the answer to {said}", router.client().say(said).all(), refused)
-    answers(router, "table", OWN_TABLE)
-
-
-@listed
-def a_command_is_obeyed_whatever_the_length_of_its_words(case):
-    """Of addresses of 20 to 38 characters, in the commands that have one."""
-    router = alone(case)
-    for more in range(0, 19, 3):
-        digits = [min(4, 1 + max(0, more - 3 * place)) for place in range(6)]
-        addr = ":".join(["2001", "db8", *["1" * count for count in digits]])
-        for line, answer in ((f"gain {addr}/128 65535", ""), (f"lookup {addr}", f"{addr}/128 metric 1 direct\n"), (f"drop {addr}/128", ""),
-                             (f"peer 0 {addr} 40000", ""), (f"unpeer 0 {addr}", "")):
-            same(f"the answer to {line}", router.client().say(f"{line}\n".encode()).all(), f"{answer}ok\n")
-
-
-@listed
-def a_line_has_1024_bytes_at_most(case):
-    """Its line feed is among them. More are refused before it comes."""
-    router = alone(case)
-    same("the answer to a long line", router.client().say(b"a" * 5_000).all(), "refused 52 NoSuchCommand\n")
-    same("the answer to 1,024 bytes", router.client().say(b"a" * 1_024).all(), "refused 52 NoSuchCommand\n")
-    same("the answer to 1,023 bytes, which are not yet a line", router.client().say(b"a" * 1_023).all(), "")
-    same("the answer to 1,023 bytes and a line feed", router.client().say(b"a" * 1_023 + b"\n").all(), "refused 52 NoSuchCommand\n")
-
-
-@listed
-def a_client_that_goes_away_is_let_go(case):
-    """Before it has said anything, within a line, and behind one: at once, since the clock stands still."""
-    router = alone(case, **environment(case.folder, "alone", clock="still"))
-    for said in (b"", b"tab", b"routes\n"):
-        router.client().say(said).close()
-        answers(router, "table", OWN_TABLE)
-
-
-@listed
-def a_client_whose_socket_is_interrupted_is_answered(case):
-    """One that is reset is let go, and disturbs nobody."""
-    whole = f"{OWN_TABLE}ok\n"
-    for call, error, told in (("recv", EINTR, whole), ("recv", EAGAIN, whole), ("send", EINTR, whole), ("send", EAGAIN, whole),
-                              ("recv", ECONNRESET, ""), ("send", ECONNRESET, ""), ("send", EPIPE, "")):
-        name = f"{call}{error}"
-        router = alone(case, name, **environment(case.folder, name, fail=f"{call}:1:1:{error}"))
-        same(f"the answer at {name}", router.client().say(b"table\n").all(), told)
-        answers(router, "table", OWN_TABLE)
-
-
-@listed
-def a_client_that_cannot_be_let_in_is_let_in_later(case):
-    """Whatever the system says of it: the router makes its turns and tries again."""
-    for error in (EAGAIN, ECONNABORTED, EINTR, EIO, EMFILE):
-        name = f"accept{error}"
-        router = alone(case, name, **environment(case.folder, name, fail=f"accept:1:20:{error}"))
-        answers(router, "table", OWN_TABLE)
-        same(f"the first calls at {name}", {answer for _, _, answer in calls(case, name, "accept")[:20]}, {-1})
-
-
-@listed
-def a_router_that_is_left_alone_sees_who_connects(case):
-    """After 64 turns it looks for no client of itself."""
-    router = alone(case, "idle", **environment(case.folder, "idle"))
-    until("left alone", lambda: len(calls(case, "idle", "accept")) == 64)
-    time.sleep(1)
-    same("how often it looked", len(calls(case, "idle", "accept")), 64)
-    begun = time.monotonic()
-    answers(router, "table", OWN_TABLE)
-    passed = time.monotonic() - begun
-    same(f"whether {passed} is less than a turn without a client", passed < 0.35, True)
-
-
-@listed
-def a_client_that_reads_slowly_gets_all(case):
-    """In many parts, since its socket takes no more at once."""
-    source, at = case.neighbor(), case.port()
-    router = case.listening("long", interface(1, at, peer(2, source.port)), "-R", "long.log")
-    feed(source, at, table("e", ROUTES))
-    until("the whole table", lambda: router.log().count(" metric 2 ") == ROUTES)
-    client = router.client().say(b"table\n")
-    while client.more():
-        time.sleep(0.05)
-    same("the answer", client.text.decode(), case.run("table", "long.log").out + "ok\n")
-
-
-@listed
-def a_client_that_says_nothing_is_let_go_after_two_seconds(case):
-    router = alone(case)
-    begun = time.monotonic()
-    same("what it got", router.client().all(), "")
-    passed = time.monotonic() - begun
-    same(f"whether {passed} is some two seconds", 1.9 < passed < 12, True)
-
-
-@listed
-def clients_that_say_or_read_nothing_keep_nobody_from_anything(case):
-    """A table is fed to a router while one client says nothing, the next reads nothing of a long answer, and one goes away. Nothing of the
-    table is lost, and the next client gets its answer whole."""
-    source, at, half = case.neighbor(), case.port(), ROUTES // 2
-    router = case.listening("busy", interface(1, at, peer(2, source.port)), "-R", "busy.log")
-    feed(source, at, table("e", half))
-    until("half a table", lambda: router.log().count(" metric 2 ") == half)
-    mute, slow = router.client(), router.client().say(b"routes\n")
-    router.client().say(b"routes\n").close()
-    feed(source, at, table("f", half))
-    until("the whole table", lambda: router.log().count(" metric 2 ") == 2 * half)
-    same("what the mute one got", mute.all(), "")
-    time.sleep(6)
-    same("whether the slow one got all", slow.all().endswith("ok\n"), False)
-    same("the table", router.ctl("table").out, case.run("table", "busy.log").out)
-    routes = router.ctl("routes").out.splitlines()
-    same("the number of routes", len([line for line in routes if " metric 2 " in line and " from fe80::2 live " in line]), 2 * half)
 
 
 if __name__ == "__main__":

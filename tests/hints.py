@@ -26,7 +26,8 @@ HINT = re.compile(r"ripngd: line (\d+): (.*)")
 PARTS = {"NAME": "east", "ADDR": "fe80::c0", "COST": "2", "MTU": "1280", "LINK": "0", "PREFIX": "2001:db8::/32", "TAG": "7", "TIMES": "3",
          "NOW": "+0", "N": "last", "K": "0", "R": "west", "I": "0", "PORT": "521", "HOP": "255", "TO": "peer", "SOURCE": "fe80::9",
          "ASKED": "all", "WORD": "0", "ROUNDS": "2", "GAP": "30000", "PHASES": "2", "SEED": "1", "METRIC": "1", "REFUSAL": "NotOwned",
-         "TEXT": "so be it", "HEX": "0101", "HOPS": "1", "FATE": "arrives", "HORIZON": "split"}
+         "TEXT": "so be it", "HEX": "0101", "HOPS": "1", "FATE": "arrives", "HORIZON": "split",
+         "UNTIL": "+1", "DELAY": "20", "LOSS": "10", "BY": "+0"}
 ROUTERS = """router west
 iface fe80::a0 1 1280 0
 own 2001:db8::/32 9
@@ -38,10 +39,11 @@ LISTED = ("router NAME", "router quiet NAME", "router quiet", "router", "iface A
 OBEYED = ("deliver N R I NOW", "stranger R I NOW SOURCE PORT HOP TO HEX", "ask R I NOW SOURCE PORT ASKED", "liar R I NOW SOURCE HEX",
           "liar R I NOW SOURCE PREFIX HOPS", "tick R NOW WORD", "tick R NOW", "tell R NOW WORD but K ..", "tell R NOW WORD", "tell R NOW but K ..",
           "tell R NOW", "hear but K ..", "hear", "restart R NOW", "shutdown R NOW", "cost R I NOW COST",
-          "gain R NOW PREFIX TAG", "drop R NOW PREFIX", "round NOW", "rounds ROUNDS NOW GAP", "phases PHASES SEED", "horizon R HORIZON", "asking off",
+          "gain R NOW PREFIX TAG", "drop R NOW PREFIX", "round NOW", "rounds ROUNDS NOW GAP", "phases PHASES SEED", "phases PHASES", "run UNTIL SEED", "run UNTIL",
+          "link LINK DELAY LOSS", "link LINK DELAY", "counts", "horizon R HORIZON", "asking off",
           "asking", "silent R", "speaks R",
           "cut LINK", "mend LINK", "down LINK NOW", "up LINK NOW", "costs LINK NOW COST", "lose N", "print R PREFIX", "print R", "print",
-          "sent N", "sent", "say TEXT", "expect R PREFIX METRIC", "expect path R ADDR FATE", "path R ADDR", "refused REFUSAL")
+          "sent N", "sent", "say TEXT", "expect R PREFIX METRIC", "expect settled BY", "expect path R ADDR FATE", "path R ADDR", "refused REFUSAL")
 
 
 def line_of(form):

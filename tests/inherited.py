@@ -5,7 +5,7 @@ are refused, and how it sends there.
     tests/inherited.py PROGRAM [NAME..]
 
 Each case has a name space of its own with the router, and another one with its neighbors, on links of virtual devices. No privilege is
-needed where a user may have name spaces (`unshare -rn`). The sockets are those of the companion (links/sockets.py). A line for each
+needed where a user may have name spaces (`unshare -rn`). The sockets are those of the companion (companion/sockets.py). A line for each
 case that fails, and last how many passed."""
 
 import contextlib
@@ -20,7 +20,7 @@ import sys
 import time
 
 sys.dont_write_bytecode = True
-sys.path.insert(0, os.path.join(os.path.dirname(os.path.abspath(__file__)), "../links"))
+sys.path.insert(0, os.path.join(os.path.dirname(os.path.abspath(__file__)), "../companion"))
 from daemons import Case, prefix, table, until
 from datagrams import REQUEST, entry, response
 from sockets import GROUP, PORT, Sockets

@@ -17,6 +17,7 @@ import { SHAPES, inserted, joined, namesOf, networkScript, withName } from '../p
 import { captionsOf, runnable } from '../page/src/lessons.js';
 import { fitted, layOut, wiringOf } from '../page/src/layout.js';
 import { drawingOf } from '../page/src/drawing.js';
+import { timelineOf } from '../page/src/timeline.js';
 import { detailOf, eventOf } from '../page/src/detail.js';
 import { matrixOf, printed, tablesOf } from '../page/src/tables.js';
 import { quizOf } from '../page/src/quiz.js';
@@ -30,6 +31,11 @@ import { askingCases } from './page_asking.mjs';
 import { verdictCases } from './page_verdict.mjs';
 import { branchCases } from './page_branches.mjs';
 import { pcapCases } from './page_pcap.mjs';
+import { exerciseCases } from './page_exercises.mjs';
+import { besideCases } from './page_beside.mjs';
+import { madeCases } from './page_made.mjs';
+import { wordCases } from './page_words.mjs';
+import { saidCases } from './page_said.mjs';
 
 const [program, scripts = '30', seed = '1', ...names] = process.argv.slice(2), folder = mkdtempSync(join(tmpdir(), 'page-'));
 const sources = fileURLToPath(new URL('../page/src', import.meta.url));
@@ -204,7 +210,7 @@ function checkPanes(script, trace) {
       const half = 3.2 * text.length, rims = [x - half, width - half - x, y - 8, height - 8 - y];
       if (2 * half < width && Math.min(...rims) < -0.1) throw new Error(`${text} stands at ${x} ${y}`);
     }
-    for (const markup of [...drawingOf({ ...state, flying: true }).parts, detailOf(state), ...tablesOf(state), matrixOf(state), quizOf(state), ...drawingOf({ ...state, isQuiz: true }).parts]) if (/undefined|NaN|\[object/.test(markup.text)) throw new Error(`step ${step}, ${state.chosen}: ${markup.text.match(/.{60}(undefined|NaN|\[object).{20}/s)?.[0]}`);
+    for (const markup of [...drawingOf({ ...state, flying: true }).parts, ...drawingOf({ ...state, hasHops: true, isSending: true }).parts, timelineOf(state, { width: 400, height: 300 }), detailOf(state), ...tablesOf(state), matrixOf(state), quizOf(state), ...drawingOf({ ...state, isQuiz: true }).parts]) if (/undefined|NaN|\[object/.test(markup.text)) throw new Error(`step ${step}, ${state.chosen}: ${markup.text.match(/.{60}(undefined|NaN|\[object).{20}/s)?.[0]}`);
   });
 }
 
@@ -321,7 +327,7 @@ const CASES = {
 // A line of three: R0 owns the prefix; link 0 is between R0 and R1, link 1 between R1 and R2.
 const THREE = 'router\niface fe80::a0 1 1280 0\nown 2001:db8::/32 0\nrouter\niface fe80::b0 1 1280 0\niface fe80::b1 1 1280 1\nrouter\niface fe80::c0 1 1280 1\ncold 0\n';
 const traceOf = script => readTrace(ran(runnable(script), '--trace'), script);
-for (const more of [lessonCases, packetCases, placingCases, removalCases, shownCases, askingCases, verdictCases, branchCases, pcapCases]) Object.assign(CASES, more({ ran, same, traceOf, three: THREE }));
+for (const more of [lessonCases, packetCases, placingCases, removalCases, shownCases, askingCases, verdictCases, branchCases, pcapCases, exerciseCases, besideCases, madeCases, wordCases, saidCases]) Object.assign(CASES, more({ ran, same, traceOf, three: THREE }));
 
 let passed = 0, failed = 0;
 function attempt(name, check) {

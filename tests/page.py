@@ -32,7 +32,7 @@ import film  # noqa: E402
 
 BROWSERS = 2
 # The milliseconds that a step may take in large networks, at least of fifty.
-QUICK, QUICK_AMONG_MANY = 100, 50
+QUICK, QUICK_OF_256, QUICK_AMONG_MANY = 100, 500, 50
 
 # Routes that come and go, in the order of addresses; costs and owners that change; a quiet router; and what is refused.
 CHANGES = """router
@@ -286,9 +286,10 @@ class Page(ClassCases):
         reader meets, but rests on what else the machine does."""
         ran = subprocess.run([ROOT / "tools/page_times.py", self.kind], capture_output=True, text=True)
         took = re.findall(r"^(.*?): .*a step (\d+),", ran.stdout, re.M)
-        same("how many networks were timed", len(took), 3)
+        same("how many networks were timed", len(took), 6)
         for name, least in took:
-            if int(least) >= (QUICK_AMONG_MANY if "10,000" in name else QUICK):
+            most = QUICK_AMONG_MANY if "10,000" in name else QUICK if name.startswith("64") else QUICK_OF_256
+            if int(least) >= most:
                 raise Failed(f"a step of {name} takes {least} ms")
 
 

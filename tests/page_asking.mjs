@@ -5,6 +5,7 @@ import { askingText, hasAsking, stepBeside, withoutAsking } from '../page/src/as
 import { detailOf, eventOf } from '../page/src/detail.js';
 import { layOut, wiringOf } from '../page/src/layout.js';
 import { drawingOf } from '../page/src/drawing.js';
+import { veiled } from '../page/src/veiling.js';
 
 export function askingCases({ ran, same, traceOf, three }) {
   const LESSON = readFileSync(fileURLToPath(new URL('../examples/lessons/31-asking.lab', import.meta.url)), 'utf8');
@@ -44,7 +45,7 @@ export function askingCases({ ran, same, traceOf, three }) {
       const script = `${three}rounds 3 0 15000\nasking\ndown 0 31000\ntick 1 31500 0\nexpect 1 2001:db8::/32 ?\n`, trace = traceOf(script), step = trace.steps.length - 1;
       const checks = [{ line: 14, router: 1, prefix: '2001:db8::/32', wanted: '?', step, isBlank: true }];
       same('whether it asks', trace.steps[step].record.asks?.router, 1);
-      same('what is told', [titles(trace, step, { checks }), plain(detailOf(view(trace, step, { checks })))].map(text => /to 2001:db8::\/32 at/.test(text)), [false, false]);
+      same('what is told', [titles(veiled(trace, checks), step, { checks }), plain(detailOf(view(veiled(trace, checks), step, { checks })))].map(text => /to 2001:db8::\/32 at/.test(text)), [false, false]);
       same('in a quiz', titles(trace, step, { isQuiz: true, guesses: new Map() }).some(title => title.includes('lost')), false);
     },
     // By hand: link 1 goes down at 76 s. Router 3 has the other path half a second later, router 2 one second after that; by

@@ -47,7 +47,7 @@ class ClassCases:
         gives R2 2, a round before R3 hears of it."""
         same("the report", self.report(folder, "cutLinks"),
              ["This walk goes over link 4, which was cut in line 21. R4 notices at 300 s, in 180 s, unless it learns another route before. | 1 | "
-              "A packet for 2001:db8::/32 from here, by the tables: R4 → R0, delivered: R0 originates it. But it is lost on hop 1, R4 → R0: link 4 was cut "
+              "A packet for 2001:db8::/32 from here, by the tables: R4 → R0, to R0, which originates it. But it is lost on hop 1, R4 → R0: link 4 was cut "
               "in line 21, and no table knows that.",
               "rounds 7 135000 30000 | A route changed in round 7 from here, 3 minutes later. | 2", "true | 1 2 3 4 5", "true",
               "true | mend 5 | Link 5 to R2 comes up now. In the script it stands from the start, and is cut until here.", "1 2 2 4 5", "9,9"])
@@ -58,10 +58,10 @@ class ClassCases:
         first = 1 + script.index(expects[0])
         checks = ",".join(f"✓ R{router}, 2001:db8::/32: expected {metric}, found {metric}" for router, metric in enumerate((4, 16, 16)))
         same("the report", self.report(folder, "takeLessons"),
-             ["Lesson 1 of 31: How routes come | true | Question: two routers are on one link, and the first has a prefix. How does the second learn "
+             ["Lesson 1 of 32: How routes come | true | Question: two routers are on one link, and the first has a prefix. How does the second learn "
               "of it, with which metric, and does the first then believe its own news?",
-              "02-one-hop-a-round.lab | Lesson 2 of 31: How routes come | false",
-              f"They poison each other's route, but each has advertised it to the owner, which now believes router 1. | 4 16 16 | {checks}",
+              "32-two-routers.lab | Lesson 2 of 32: How routes come | false",
+              f"They poison each other's route, but each has advertised it to the owner, which now believes R1. | 4 16 16 | {checks}",
               f"{len(expects)} | {len(expects)}", f"0 | 1 | {first} | Line {first}: expected R1 2001:db8::/32 5 found 2. Nothing behind it was run."])
 
     def asking(self, folder):
@@ -94,7 +94,7 @@ class ClassCases:
              ["1 + 1 = 2: 1 at the owner, and the cost of each hop. 1 hop to the owner, R1 → Berlin. | Berlin | Berlin", "0"])
 
     def quiz(self, folder):
-        same("the report", self.report(folder, "playQuiz"), [" | ? ? ?", "1 2 3 | 2 of 3 right, 1 at the first guess.", "true | 1 2 3"])
+        same("the report", self.report(folder, "playQuiz"), ["#caption,#detail,#events | ? ? ?", "1 2 3 | 2 of 3 right, 1 at the first guess.", "true | 1 2 3"])
 
     def matrix(self, folder):
         same("the report", self.report(folder, "seeMatrix"), ["12 | 1,2,3,4,5,6,·", "Why has R3 metric 4 for 2001:db8::/32?", "6"])
@@ -122,4 +122,4 @@ class ClassCases:
     def letters(self, folder):
         same("the report", self.report(folder, "useLetters"),
              ["round 0", "cut 4 | link 4 of R0 and R4, cut", "mend 4", "Why has R1 metric 2 for 2001:db8::/32?", "true",
-              "Choose a router or a route first.", "true", "true", "02-one-hop-a-round.lab", "01-one-hop.lab"])
+              "Choose a router or a route first.", "true", "true", "32-two-routers.lab", "01-one-hop.lab"])

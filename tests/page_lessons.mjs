@@ -46,12 +46,15 @@ export function lessonCases({ ran, same, traceOf, three }) {
       same('a paragraph', captionsOf('# One.\n#\n# Two.\nrouter').at(-1), 'One. Two.');
       same('a drawing alone', captionsOf('# One.\nrouter\n#\n# a --link 0-- b\ncold 0').at(-1), 'One.');
     },
-    // Four expectations and a blank: R1 has 2 after a round, and R2 nothing; the last is not come to.
+    // Four expectations and a blank: R1 has 2 after a round, and R2 nothing. With a blank all are come to, and without one what is wrong ends
+    // the script.
     expectations: () => {
       const script = `${three}round 0\nexpect 1 2001:db8::/32 2   # so\nexpect 2 2001:db8::/32 none\nexpect 1 2001:DB8:0::/32 ?\nround 15000\nexpect 2 2001:db8::/32 4\nexpect 2 2001:db8::/32 3\n`;
       same('them', expectationsOf(script).map(({ line, router, wanted }) => [line, router, wanted]), [[11, 1, '2'], [12, 2, 'none'], [13, 1, '?'], [15, 2, '4'], [16, 2, '3']]);
       same('as checked', checksOf(traceOf(script), expectationsOf(script)).map(({ line, found, isMet, isBlank }) => [line, found, isMet, isBlank]),
-        [[11, '2', true, false], [12, 'none', true, false], [13, '2', false, true], [15, '3', false, false]]);
+        [[11, '2', true, false], [12, 'none', true, false], [13, '2', false, true], [15, '3', false, false], [16, '3', true, false]]);
+      const plain = script.replace('?', '2');
+      same('without a blank', checksOf(traceOf(plain), expectationsOf(plain)).map(({ line, isMet }) => [line, isMet]), [[11, true], [12, true], [13, true], [15, false]]);
       same('an answer', withAnswer(script, 13, '2').split('\n')[12], 'expect 1 2001:DB8:0::/32 2');
       same('by name', expectationsOf('router a\nrouter b\nexpect b ::/0 none').map(({ router }) => router), [1]);
       same('what is no metric', ['0', '17', 'x', '', '1.5'].map(metricIn), [null, null, null, null, null]);

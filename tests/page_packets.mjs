@@ -2,7 +2,7 @@
 import { readFileSync } from 'node:fs';
 import { fileURLToPath } from 'node:url';
 import { named, prefixInView } from '../page/src/trace.js';
-import { isSameTarget, pathOf, targetIn, waysOf } from '../page/src/packets.js';
+import { pathOf, targetIn, waysOf } from '../page/src/packets.js';
 import { joined, networkScript } from '../page/src/building.js';
 import { oneResponse } from '../page/src/datagrams.js';
 import { layOut, wiringOf } from '../page/src/layout.js';
@@ -96,7 +96,6 @@ export function packetCases({ same, traceOf, three }) {
       for (const text of ['', 'x', '1:2', '1::2::3', '::/129', ':::', '1:2:3:4:5:6:7:8:9', '1:2:3:4:5:6:7::8', 'fe80::1%eth0', '10.0.0.1', '12345::', ':1::', '1:', '::/', '::/1/2', '::1:']) same(text, targetIn(text), null);
       const trace = traceOf(three);
       same('as things', ['packet 0 ::1', 'packet 0 2001:DB8::1', 'packet 9 ::1', 'packet 0', 'packet 0 <b>'].map(text => named(text, trace)?.target ?? null), ['::1', null, null, null, null]);
-      same('the same', [isSameTarget('2001:db8:0:0::1', '2001:db8::1'), isSameTarget('::1', '::1/127')], [true, false]);
     },
   };
 }

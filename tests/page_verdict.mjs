@@ -2,6 +2,7 @@
 import { packetDetail, verdictOf } from '../page/src/forwarding.js';
 import { tablesOf, tallyOf } from '../page/src/tables.js';
 import { offersOf } from '../page/src/walks.js';
+import { veiled } from '../page/src/veiling.js';
 import { checksOf, captionsOf, expectationsOf, withAnswerApart } from '../page/src/lessons.js';
 
 export function verdictCases({ same, traceOf, three }) {
@@ -22,7 +23,8 @@ export function verdictCases({ same, traceOf, three }) {
       same('the outcome', offersOf(trace, step).map(({ before, after, outcome }) => [before, after, outcome]), [[2, 6, 'from its next hop: believed though worse']]);
     },
     'an open blank leaves no trail': () => {
-      const script = `${three}round 0\nround 15000\nexpect 2 2001:db8::/32 ?\n`, trace = traceOf(script), state = { trace, step: trace.steps.length - 1, chosen: null, typed: {}, place: 'end', checks: checksOf(trace, expectationsOf(script)) };
+      const script = `${three}round 0\nround 15000\nexpect 2 2001:db8::/32 ?\n`, whole = traceOf(script), checks = checksOf(whole, expectationsOf(script)), trace = veiled(whole, checks);
+      const state = { trace, step: trace.steps.length - 1, chosen: null, typed: {}, place: 'end', checks };
       same('on top', [plain(verdictOf(state)), plain(tallyOf(state))], ['', '']);
       same('of packets', plain(packetDetail(state, { router: 2, target: '2001:db8::/32' })), 'Blanks ask for metrics. Fill them in, and the page says where packets go.');
       same('when it expires', tablesOf(state).map(({ text }) => /in \d+ s/.test(text)), [false, true, false]);

@@ -23,14 +23,14 @@ import prose
 
 SECONDS = 120
 # How a line of a block begins that is a command, and a text in back quotes that is a whole one.
-COMMAND = re.compile(r"(sudo )?((bin/)?ripngd(-links)?|make|rt|ip|apt|git) |(sudo )?(/usr/share|links|tests|tools)/\S")
+COMMAND = re.compile(r"(sudo )?((bin/)?ripngd(-links)?|make|rt|ip|apt|git) |(sudo )?(/usr/share|companion|tests|tools)/\S")
 INLINE = re.compile(r"(make|rt|git|grep|sysctl) \S|(tests|tools|page)/\S+ |(bin/)?ripngd --version$")
 # A word in capitals stands for something else.
 USAGE = re.compile(r"(^|[ =])[A-Z]{2,}\b")
 # Commands that are not run here: how they begin, and why. Each has to be in some page.
 NOT_PLAYED = {
     r"(sudo )?make(?! film)": "minutes, the kit, or root",
-    r"sudo links/bird.sh": "root and BIRD; tests/links/edges.py plays it",
+    r"sudo companion/bird.sh": "root and BIRD; tests/links/edges.py plays it",
     r"sudo ripngd-links": "root and BIRD; tests/links/edges.py plays it",
     r"ip -6 route show proto 152": "root and BIRD; tests/links/edges.py looks at that table",
     r"rt ": "the kit, and minutes",
@@ -39,7 +39,7 @@ NOT_PLAYED = {
     r"page/build.sh": "the kit, and minutes; the gate checks the page by it",
     r"tools/mutants": "minutes, the kit, and root",
     r"apt install": "root and a package; tests/links/package.py plays it",
-    r"/usr/share/doc/ripngd/links/bird.sh": "root and BIRD; tests/links/package.py has it",
+    r"/usr/share/doc/ripngd/companion/bird.sh": "root and BIRD; tests/links/package.py has it",
     r"ripngd-links": "root and a link; tests/links plays it",
     r"ripngd ctl /run/ripngd-links": "root and a link; tests/links plays it",
 }
@@ -57,10 +57,10 @@ PLANTED = [
     ("a heading that is gone", "docs/PROTOCOL.md", "## How old news may be", "## Ages", "each heading that is named is there", "How old news may be"),
     ("a false ratio", "README.md", "0.30 to 0.93", "0.29 to 0.93", "the ratios of README are those of PERFORMANCE", "0.30 to 0.93"),
     ("a false limit", "docs/PROTOCOL.md", "65,536 (`TABLE_LIMIT`)", "65,535 (`TABLE_LIMIT`)", "the limits of pages are those of the code", "TABLE_LIMIT"),
-    ("a false count of lessons", "examples/README.md", "Thirty-one lessons", "Twenty-nine lessons", "each lesson is there, and has its row", "31 lessons"),
+    ("a false count of lessons", "examples/README.md", "Thirty-two lessons", "Twenty-nine lessons", "each lesson is there, and has its row", "32 lessons"),
     ("a false count", "docs/OPERATING.md", "numbers 1 to 37", "numbers 1 to 38", "the counts of pages are right", "1 to 37"),
     ("a house word in a page", "docs/EMBEDDING.md", "## A network", "There are so\nmany of them.\n\n## A network", PROSE, "\"so many\" is refused"),
-    ("a house word in a doc comment", "crates/ripngd_show/src/lib.rt", "//! ", "//! For want of memory. ", PROSE, "crates/ripngd_show/src/lib.rt:1: "),
+    ("a house word in a doc comment", "crates/ripng_show/src/lib.rt", "//! ", "//! For want of memory. ", PROSE, "crates/ripng_show/src/lib.rt:1: "),
     ("a page that is too long", "README.md", "# ripngd\n", "# ripngd\n\n\n\n", PROSE, "README.md has "),
 ]
 ALL = CHECKS | {PROSE: lambda tree: prose.faults(tree.root)}
@@ -186,7 +186,7 @@ def no_unknown_words(program):
     tree, known = Tree(ROOT), set(subcommands(program))
     targets = set(" ".join(re.findall(r"^([a-z][\w ]*):", tree.text("Makefile"), re.MULTILINE)).split())
     helps = " ".join(help_of(program, "help", word) for word in known)
-    sources = helps + " ".join(tree.text(file) for file in tree.files if file.parts[0] in ("bench", "links", "tools", "tests", "page", ".ci") and file.suffix in (".py", ".sh", ""))
+    sources = helps + " ".join(tree.text(file) for file in tree.files if file.parts[0] in ("bench", "companion", "tools", "tests", "page", ".ci") and file.suffix in (".py", ".sh", ""))
     faults = []
     for place, line in tree.page_lines():
         for code in SPAN.findall(line):

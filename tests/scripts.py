@@ -135,6 +135,16 @@ def heals_by_phases(program, seed):
     leaves_least(program, f"{start}{TROUBLE}phases 28 {seed}", 14, Network(Network.of(start).ports, owners))
 
 
+def heals_by_time(program, seed):
+    """28 minutes and the time of a timeout after trouble, over links with delays below 13 seconds, each table has the least costs."""
+    words, start = random.Random(seed), random_network(seed)
+    owners = [Owner(0, "2001:db8::/32", "1"), Owner(2, "2001:db8::/32", "2"), Owner(1, "2001:db8:c::/48", "3")]
+    network = Network(Network.of(start).ports, owners)
+    links = sorted({port.link for port in network.ports})
+    delays = "".join(f"link {link} {words.randrange(13000)}\n" for link in links)
+    leaves_least(program, f"{start}{TROUBLE}{delays}run +1800000 {seed}\nexpect healed\n", 14, network)
+
+
 def tables_after(program, start, phases):
     """The phase that is said to have changed a table last, if one is, and the tables. Fewer phases of a seed are the first of more."""
     lines = lab(program, f"{start}phases {phases} 7\nprint\n" if phases else f"{start}print\n")
@@ -188,6 +198,7 @@ def main(program, *names):
         *((f"routes of {name} are walks", all_walks, script, least) for name, script, least in walks()),
         *((f"{count} rounds find the least costs, {name}", leaves_least, f"{start}rounds {count} 0 15000", count) for name, start, count in rounds()),
         *((f"phases heal random networks, {seed}", heals_by_phases, seed) for seed in range(1, 9)),
+        *((f"time heals random networks, {seed}", heals_by_time, seed) for seed in range(1, 7)),
         *((f"events of a phase are in its minute, {seed}", events_of_a_phase_are_in_its_minute, seed) for seed in range(4)),
         ("tables change last where it is said", tables_change_last_where_it_is_said),
     ]

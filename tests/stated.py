@@ -30,8 +30,8 @@ CONSTANTS = [
     ("docs/PROTOCOL.md", r"MTU is not ([\d,]+) to ([\d,]+) bytes", [("router_core/src/config.rt", "LEAST_MTU"), ("router_core/src/config.rt", "MOST_MTU")]),
     ("docs/PROTOCOL.md", r"at most ([\d,]+) entries, as many", [("ripng_wire/src/rte.rt", "MAX_ENTRIES")]),
     ("docs/SCRIPTS.md", r"more than ([\d,]+) routers \(`ROUTER_LIMIT`\)", [("ripng_world/src/network.rt", "ROUTER_LIMIT")]),
-    ("docs/SCRIPTS.md", r"K rounds, 1 to ([\d,]+),", [("ripngd_lab/src/line.rt", "ROUNDS_LIMIT")]),
-    ("docs/SCRIPTS.md", r"K phases, 1 to ([\d,]+),", [("ripngd_lab/src/moving.rt", "PHASES_LIMIT")]),
+    ("docs/SCRIPTS.md", r"K rounds, 1 to ([\d,]+),", [("ripng_lab/src/line.rt", "ROUNDS_LIMIT")]),
+    ("docs/SCRIPTS.md", r"K phases, 1 to ([\d,]+),", [("ripng_lab/src/moving.rt", "PHASES_LIMIT")]),
     ("docs/OPERATING.md", r"([\d,]+) divided by `n` datagrams", [("ripngd_udp/src/pace.rt", "AT_ONCE")]),
     ("docs/OPERATING.md", r"as many ([\d,]+) ms after the last", [("ripngd_udp/src/pace.rt", "PAUSE_MS")]),
     ("docs/OPERATING.md", r"Up to ([\d,]+) wait there", [("ripngd_udp/src/send_queue.rt", "ROOM")]),
@@ -95,8 +95,10 @@ def in_words(number):
 
 
 def unknown_files(tree):
-    """Files that are named and not there. A name may leave out the folders before it, and be one that a case makes."""
+    """Files that are named and not there. A name may leave out the folders before it, and be one that a case or a
+    command of a page makes."""
     made = {name for file in tree.matching("tests/cases/*.case") for name in re.findall(r"^file (\S+)", tree.text(file), re.MULTILINE)}
+    made |= {name for _, line in tree.page_lines() for name in re.findall(r"^ {4}.*> (\S+)$", line)}
     faults = []
     for place, line in [*tree.page_lines(), *tree.comments(), *tree.remarks()]:
         for name in FILE.findall(line):

@@ -38,13 +38,13 @@ READ = {
                    [("north", "east", 1), ("east", "south", 2), ("south", "west", 1), ("north", "west", 1), ("east", "west", 15)]),
 }
 # A file that is refused: its name, what it has, and what is said of it.
-MANY = "".join(f"r{number} r{number + 1}\n" for number in range(64))
+MANY = "".join(f"r{number} r{number + 1}\n" for number in range(4096))
 HUB = "".join(f"hub leaf{number % 60}\n" for number in range(257))
 XML = "<graphml>\n<graph>\n<node id='a'/>\n<node id='b'/>\n{}\n</graph>\n</graphml>\n"
 YAML = "topology:\n  nodes:\n    a:\n    b:\n  links:\n    {}\n"
 NODES = '{"nodes": [{"id": 1},\n {"id": 2}],\n "links": ['
 BAD = [
-    ("many.txt", MANY, "line 64: router r64 is the 65th, and a network has at most 64"),
+    ("many.txt", MANY, "line 4096: router r4096 is the 4097th, and a network has at most 4096"),
     ("hub.txt", HUB, "line 257: router hub needs a 257th interface, and a router has at most 256"),
     ("dear.txt", "a b 15\nb c 16\n", "line 2: the edge of b and c costs 16, and a cost is 1 to 15"),
     ("free.txt", "a b 0\n", "line 1: the edge of a and b costs 0, and a cost is 1 to 15"),
@@ -88,13 +88,14 @@ BAD = [
 ]
 # Shapes that are refused, and what is said.
 NO_SHAPES = {
-    "ring 2": "ring: 2 is no number from 3 to 9999",
-    "ring 65": "ring: router R64 is the 65th, and a network has at most 64",
-    "grid 5 13": "grid: router R64 is the 65th, and a network has at most 64",
+    "ring 2": "ring: 2 is no number from 3 to 99999",
+    "ring 4097": "ring: router R4096 is the 4097th, and a network has at most 4096",
+    "grid 241 17": "grid: router R4096 is the 4097th, and a network has at most 4096",
     "grid 5": "grid: a grid has 2 numbers, and here are 1",
-    "star 65": "star: router R64 is the 65th, and a network has at most 64",
+    "ba 10000 2": "ba: router R4096 is the 4097th, and a network has at most 4096",
     "ba 3 3": "ba: 3 routers are too few for 3 links of each new one",
     "waxman 9 1.1": "waxman: 1.1 is no number above 0 and at most 1",
+    "ring 8 --owners 9": "ring: owners are 1 to 8, one for each router, and not 9",
     "ring 8 --rounds 1001": "ring: rounds are 1 to 1000, and not 1001",
     "nothing.graphml": "nothing.graphml: it cannot be read: No such file or directory",
     "--seed x ba 9 1": "argument --seed: invalid int value: 'x'",
@@ -192,7 +193,7 @@ def has_shape(words, routers, links):
 
 def has_limits(program):
     """The program takes a network of the greatest size, and none with a router or an interface more."""
-    for words, place, more, why in (("grid 8 8", "cold 0", "router\niface fe80::ffff 1 999", "1 TooManyRouters"),
+    for words, place, more, why in (("grid 64 64", "cold 0", "router\niface fe80::ffff 1 9999", "1 TooManyRouters"),
                                     ("star 17", "own ", "iface fe80::ffff 1 999\n" * 241, "3 BadRouter 0 2 TooManyInterfaces")):
         script = script_of(words)
         lab(program, script)
@@ -251,14 +252,30 @@ def notebook_counts(program):
     """Two routers send a Request each, then their own prefix, then both prefixes."""
     network = ripnglab.Network.from_graph([("a", "b")], program=program)
     counts = [network.counts(), network.rounds(1).counts(), network.rounds(1).counts()]
-    same("what is sent", [(count["datagrams"], count["entries"]) for count in counts], [(2, 2), (4, 4), (6, 8)])
+    wanted = [(2, 2, 0, 0), (4, 2, 2, 2), (6, 2, 6, 2)]
+    same("what is sent", [tuple(count[name] for name in ("datagrams", "requests", "entries", "changes")) for count in counts], wanted)
+
+
+def notebook_time(program):
+    """Time passes, with a delay and a cut: the way round is found, and the lines of numbers have what is counted."""
+    network = ripnglab.Network.from_graph([("a", "b"), ("b", "c"), ("c", "a")], program=program).link(("a", "b"), 500).run(60_000, 1)
+    same("a ring", network.tables()["a"], {"a": 1, "b": 2, "c": 2})
+    network.cut(("a", "b")).run(400_000, 2)
+    same("a line", network.tables()["a"], {"a": 1, "b": 3, "c": 2})
+    counts, rows, by_router = network.counts(), network.numbers(10), network.numbers(10, by_router=True)
+    for name in ("datagrams", "entries", "bytes", "regular", "triggered", "requests", "replies", "changes"):
+        same(f"the sums of {name}", [sum(row[name] for row in of) for of in (rows, by_router)], [counts[name]] * 2)
+    same("the routers", [row["router"] for row in by_router[:3]], ["a", "b", "c"])
+    swept = network.sweep(3, 5)
+    same("a sweep of lines that name their seeds", [(row["seed"], row["status"], row["entries"], row["last"]) for row in swept],
+         [(seed, 0, counts["entries"], counts["last"]) for seed in (3, 4, 5)])
 
 
 def notebook_refusals(program):
     """What the program refuses, and what no network has, is an error that says so."""
     network = ripnglab.Network.from_graph([("a", "b")], program=program)
     calls = {
-        "`rounds 1001 0 15000` refused: BadLine": lambda: network.rounds(1001).run(),
+        "`rounds 1001 0 15000` refused: BadLine": lambda: network.rounds(1001).play(),
         "no router c": lambda: network.down("c"),
         "no link joins a and c": lambda: network.cut(("a", "c")),
         "router hub needs a 257th interface": lambda: ripnglab.Network.from_graph([("hub", leaf % 60) for leaf in range(257)]),
@@ -296,7 +313,7 @@ def main(program, *names):
         ("ba adds routers", lambda folder: grows()),
         ("waxman joins near routers", lambda folder: is_near()),
         ("random shapes are by their seed", lambda folder: is_by_seed()),
-        *((f"a notebook: {case.__name__}", lambda folder, case=case: case(program)) for case in (notebook, notebook_costs, notebook_counts, notebook_refusals, shown)),
+        *((f"a notebook: {case.__name__}", lambda folder, case=case: case(program)) for case in (notebook, notebook_costs, notebook_counts, notebook_time, notebook_refusals, shown)),
     ]
     return play(named(cases, names))
 

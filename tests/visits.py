@@ -12,13 +12,16 @@ import sys
 
 import browser
 from newcomer import BY_WIDTH, Newcomer
+from pictured import Pictured
 from reading import Reader
+from solving import Solver
+from speaking import Speaker
 from seen import CUT_OFF, FIND, METRICS, NAMES_KEPT, ROUTE, SHOWN, SMALL, STILL, TEXT_KEPT, WIDE, same, text_of
 
-NAMES = ('newcomer', 'keyboard', 'sizes', 'phone', 'room', 'drafts', 'undone', 'places', 'first', 'lessons', 'branches', *BY_WIDTH)
+NAMES = ('newcomer', 'keyboard', 'sizes', 'phone', 'room', 'drafts', 'undone', 'places', 'first', 'lessons', 'branches', 'diagram', 'packets', 'versions', 'forged', 'pasted', 'exercises', 'languages', *BY_WIDTH)
 
 
-class Visit(Newcomer, Reader):
+class Visit(Newcomer, Reader, Pictured, Solver, Speaker):
     def __init__(self, page, url):
         self.page, self.url = page, url
         self.open(url)

@@ -14,7 +14,7 @@ import sys
 from errno import ENOSPC
 
 sys.dont_write_bytecode = True
-sys.path.insert(0, os.path.join(os.path.dirname(os.path.abspath(__file__)), "../links"))
+sys.path.insert(0, os.path.join(os.path.dirname(os.path.abspath(__file__)), "../companion"))
 from daemons import interface, listed, main, peer, prefix, SECONDS, until
 from datagrams import MOST, REQUEST, entry, feed, response, table
 from ordered import Ordered
@@ -151,6 +151,7 @@ def a_router_says_how_it_is_in_json(case):
     first, second, ports = case.neighbor(), case.neighbor(), (case.port(), case.port())
     text = interface(1, ports[0], peer(2, first.port), cost=3) + interface(3, ports[1], peer(4, second.port), mtu=1500) + prefix("2001:db8:e::/48")
     router = case.listening("json", text)
+    until("its first update, a regular one", lambda: first.receive()[0][0] == 2)
     for _ in range(2):
         first.send(ports[0], response(entry(OWN, 1), entry(OWN, 17)))
     second.send(ports[1], b"\2\1")
@@ -178,9 +179,11 @@ def a_router_says_how_it_is_in_json(case):
                                         "refused": none | {"Short": 1, "BadMetric": 2}})
     heard = {"address": "fe80::2", "arrivals": 2, "responses": 2, "entries": 4, "refused": none | {"BadMetric": 2}}
     never = {"address": "fe80::4", "arrivals": 1, "responses": 0, "entries": 0, "response_seconds_ago": None, "refused": none | {"Short": 1}}
+    same("the last Response on the first link", links[0].pop("response_seconds_ago"), since)
+    sent = {"triggered_updates": 1, "queued": 0, "queued_answers": 0}
     same("the interfaces", links, [
-        {"interface": 0, "address": "fe80::1", "cost": 3, "mtu": 1280, "neighbors": [heard]},
-        {"interface": 1, "address": "fe80::3", "cost": 1, "mtu": 1500, "neighbors": [never]}])
+        {"interface": 0, "cost": 3, "mtu": 1280, "neighbors": [heard]} | sent | heard | {"address": "fe80::1"},
+        {"interface": 1, "cost": 1, "mtu": 1500, "neighbors": [never]} | sent | never | {"address": "fe80::3"}])
     same("all others", others, {"arrivals": 0, "responses": 0, "entries": 0, "response_seconds_ago": None, "refused": none})
     named = [f"router.{name}" for name in router] + [f"links[].{name}" for name in links[0]] + [f"links[].neighbors[].{name}" for name in never]
     same("names that the companion has not", [name for name in named if not any(known.startswith(name) for known in SHAPE)], [])

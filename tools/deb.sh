@@ -21,7 +21,7 @@ sed -i '1s|.*|#!/usr/bin/python3|' "$folder/usr/lib/ripngd-links/ripngd-links"
 mkdir -p "$folder/etc/ripngd" "$folder/etc/ripngd-links" "$folder/usr/share/lintian/overrides" "$folder/DEBIAN"
 echo 'ripngd: unstripped-binary-or-object' > "$folder/usr/share/lintian/overrides/ripngd"
 gzip -9nf "$folder"/usr/share/man/man8/*.8
-install -m 644 "$(dirname "$0")/../links/sample.toml" "$folder/etc/ripngd-links/sample.toml"
+install -m 644 "$(dirname "$0")/../companion/sample.toml" "$folder/etc/ripngd-links/sample.toml"
 echo /etc/ripngd-links/sample.toml > "$folder/DEBIAN/conffiles"
 # The points of docs/CHANGELOG.md for the newest version, as Debian wants them.
 changes=$(awk '/^## /{if (seen++) exit; next} seen && /^- /{print "  * " substr($0, 3)} seen && /^  /{print "  " $0}' "$doc/docs/CHANGELOG.md")
@@ -75,6 +75,6 @@ END
 (cd "$folder" && find usr -type f -print0 | LC_ALL=C sort -z | xargs -0 md5sum > DEBIAN/md5sums)
 find "$folder" -type d -exec chmod 755 {} +
 find "$folder/usr/share" -type f -exec chmod 644 {} +
-chmod 755 "$folder/DEBIAN/postinst" "$folder/DEBIAN/prerm" "$folder/DEBIAN/postrm" "$doc/links/bird.sh"
+chmod 755 "$folder/DEBIAN/postinst" "$folder/DEBIAN/prerm" "$folder/DEBIAN/postrm" "$doc/companion/bird.sh"
 chmod 644 "$folder/DEBIAN/control" "$folder/DEBIAN/md5sums" "$folder/DEBIAN/conffiles"
 dpkg-deb --root-owner-group --build "$folder" "$package"

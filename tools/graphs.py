@@ -55,7 +55,7 @@ class Graph:
 
         def root(node):
             while roots[node] != node:
-                node = roots[node]
+                roots[node] = node = roots[roots[node]]
             return node
 
         for edge in self.edges:
@@ -118,7 +118,10 @@ def waxman(count, beta=0.4, alpha=0.2, *, seed):
     greatest of all."""
     draws = random.Random(seed)
     places = [(draws.random(), draws.random()) for _ in range(count)]
-    pairs = list(itertools.combinations(range(count), 2))
-    far = {pair: math.dist(places[pair[0]], places[pair[1]]) for pair in pairs}
-    greatest = max(far.values(), default=1)
-    return graph_of(count, [pair for pair in pairs if draws.random() < beta * math.exp(-far[pair] / (alpha * greatest))])
+
+    def far():
+        return (math.dist(one, other) for one, other in itertools.combinations(places, 2))
+
+    greatest = max(far(), default=1)
+    pairs = zip(itertools.combinations(range(count), 2), far())
+    return graph_of(count, [pair for pair, distance in pairs if draws.random() < beta * math.exp(-distance / (alpha * greatest))])

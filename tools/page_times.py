@@ -1,9 +1,9 @@
 #!/usr/bin/env python3
 """How long large networks take in the page, docs/lab.html.
 
-    tools/page_times.py chromium|firefox
+    tools/page_times.py chromium|firefox [FILE]
 
-First when the page is painted, with the example that it opens. Then a line for each network, a film of it: its steps, the milliseconds
+FILE is another such page. First when the page is painted, with the example that it opens. Then a line for each network, a film of it: its steps, the milliseconds
 that the module takes, of three runs the least, and its memory, how long the film takes to come up, and of fifty steps near the end the
 least, the median, the most. A step is from the click to the page's new layout. Run nothing else meanwhile.
 """
@@ -33,6 +33,9 @@ def grid(side, owners, ends):
 NETWORKS = {
     '64 routers, 1 prefix': grid(8, 1, ['rounds 14 0 15000']),
     '64 routers, 64 prefixes': grid(8, 64, ['rounds 14 0 15000']),
+    '256 routers, 1 prefix': grid(16, 1, ['rounds 4 0 15000']),
+    '256 routers, 16 prefixes': grid(16, 16, ['rounds 4 0 15000']),
+    '324 routers, 1 prefix, no drawing': grid(18, 1, ['rounds 3 0 15000']),
     '4 routers, 10,000 events': grid(2, 1, ['rounds 830 0 15000']),
 }
 STEP = '''(() => {
@@ -58,6 +61,8 @@ RUN = '''(async () => {
   worker.terminate();
   return [Math.min(...times), memory];
 })()'''
+# What the laboratory of the page says of a network that is too large for it.
+REFUSED = '''/^Line .*at most .*routers/.exec(document.getElementById('editing').textContent)?.[0]'''
 PAINTED = 'performance.getEntriesByName("first-contentful-paint")[0]?.startTime'
 
 
@@ -69,12 +74,15 @@ def come_up(page, path):
     return time.time() - began
 
 
-def times(page, name, lines):
+def times(page, name, lines, lab):
     path = os.path.join(page.folder, 'network.html')
-    with open(os.path.join(ROOT, 'docs/lab.html')) as lab, open(path, 'w') as file:
+    with open(lab) as lab, open(path, 'w') as file:
         file.write(film.film(lab.read(), 'network.lab', '\n'.join(lines) + '\n'))
     load = come_up(page, path)
     run, memory = page.promised(RUN)
+    if page.value(REFUSED):
+        print(f'{name}: {page.value(REFUSED)}', flush=True)
+        return
     page.value('document.getElementById("last").click()')
     took = sorted(page.value(STEP) for _ in range(50))
     steps = page.value('Number(document.getElementById("slider").max) + 1')
@@ -82,18 +90,18 @@ def times(page, name, lines):
           f'a step {took[0]:.0f}, {took[25]:.0f}, {took[-1]:.0f} ms', flush=True)
 
 
-def main(kind):
+def main(kind, lab=os.path.join(ROOT, 'docs/lab.html')):
     page = browser.open_browser(kind)
     try:
-        load = come_up(page, os.path.realpath(os.path.join(ROOT, 'docs/lab.html')))
+        load = come_up(page, os.path.realpath(lab))
         print(f'the page: painted after {page.wait(PAINTED):.0f} ms, up in {load:.1f} s', flush=True)
         for name, lines in NETWORKS.items():
-            times(page, name, lines)
+            times(page, name, lines, lab)
     finally:
         page.close()
 
 
 if __name__ == '__main__':
-    if len(sys.argv) != 2 or sys.argv[1] not in browser.PROGRAMS:
+    if len(sys.argv) not in (2, 3) or sys.argv[1] not in browser.PROGRAMS:
         sys.exit(__doc__)
-    main(sys.argv[1])
+    main(*sys.argv[1:])

@@ -51,7 +51,7 @@ if [ "$crate" = ripngd_program ]; then
     judge "$folder" "$room/first" router_core || true
     copy "$folder" "$room/daemon" below ripngd_daemon
     (cd "$room/daemon" && exec nice -n 19 rt ci > "$room/beside" 2>&1) &
-    judge "$folder" "$room/first" ripngd_trace || true
+    judge "$folder" "$room/first" ripng_trace || true
     wait
     logs=("$room/first" "$room/beside")
 fi

@@ -4,16 +4,19 @@
     from ripnglab import Network
 
     network = Network.from_graph([("a", "b"), ("b", "c"), ("c", "a")])
-    network.rounds(20).cut(("a", "b")).rounds(40)
+    network.link(("a", "b"), 20).run(300_000).cut(("a", "b")).run(600_000)
     network.tables()["a"]["b"]          # 3: over c
-    network.counts()                    # {"datagrams": .., "entries": ..}
+    network.counts()                    # {"datagrams": .., "entries": .., "last": ..}
+    network.numbers(10)                 # [{"time": 0, "datagrams": ..}, ..]: what was sent in each interval of 10 seconds
+    network.sweep(1, 100)               # [{"seed": 1, "status": 0, "datagrams": ..}, ..]: a run for each seed
 
-Each node of the graph is a router that owns one prefix, each edge a link. Nodes keep the names that they have in the graph. A line of the
-script is added by each call, and the program runs when something is asked, from the cold start on. What no network can be is a `Fault`
+Each node of the graph is a router that owns one prefix, each edge a link. Nodes keep the names that they have in the graph. Times are in
+milliseconds since the cold start. A line of the script is added by each call, and the program runs when something is asked, from the cold start on. What no network can be is a `Fault`
 when it is made, and what the program refuses is `Refused`. The program is the one that a network is given, or that the variable RIPNGD
 names, or the one that is built here, or else the installed one.
 """
 
+import csv
 import json
 import os
 import pathlib
@@ -23,8 +26,8 @@ import topology
 from graphs import Fault, Graph
 
 BUILT = pathlib.Path(__file__).resolve().parent.parent / "bin/ripngd"
-# A metric of this much is no route (RFC 2080, 2.1); an entry has 20 bytes after a header of 4.
-INFINITY, HEADER, ENTRY = 16, 4, 20
+# A metric of this much is no route (RFC 2080, 2.1).
+INFINITY = 16
 
 
 class Refused(Fault):
@@ -41,9 +44,21 @@ def cost_of(edges, edge, costs):
     return costs.get((one, other), costs.get((other, one), 1))
 
 
+def lab(program, script, *options):
+    """What the program does with a script."""
+    return subprocess.run([program, "lab", *options, "/dev/stdin"], input=script, capture_output=True, text=True)
+
+
+def rows(run):
+    """Lines of numbers as maps; a value that is missing is None. Where the program refuses something, there are none."""
+    if run.returncode > 1 or not run.stdout or (run.returncode and not run.stdout.startswith("seed,")):
+        raise Refused(f"the program ended with status {run.returncode}: {run.stdout.splitlines()[-1:]} {run.stderr.strip()}")
+    return [{name: int(value) if value.isdigit() else value or None for name, value in row.items()} for row in csv.DictReader(run.stdout.splitlines())]
+
+
 def result(program, script):
     """The records of a script's trace."""
-    run = subprocess.run([program, "lab", "--trace", "/dev/stdin"], input=script, capture_output=True, text=True)
+    run = lab(program, script, "--trace")
     records = [json.loads(line) for line in run.stdout.splitlines()]
     if records and records[-1]["record"] == "refused":
         hint = (records[-1]["hint"] or {}).get("text")
@@ -88,6 +103,16 @@ class Network:
         begin, self.has_time = f"+{topology.GAP}" if self.has_time else "0", True
         return self.add(f"rounds {count} {begin} {topology.GAP}")
 
+    def run(self, until, seed=None):
+        """Time passes until that moment: all routers act when they have to, and datagrams take what their links take. What is random is
+        by the seed, or by that of a sweep."""
+        self.has_time = True
+        return self.add(f"run {until}" if seed is None else f"run {until} {seed}")
+
+    def link(self, link, delay, loss=0):
+        """From now on a link, or the links of a pair of routers, takes so many milliseconds, and loses so many datagrams in a hundred."""
+        return self.add(*(f"link {number} {delay} {loss}" for number in self.links(link)))
+
     def down(self, router):
         """A router fails: it neither sends nor receives, until it is up again."""
         return self.add(f"silent {self.name(router)}")
@@ -103,16 +128,16 @@ class Network:
         return self.add(*(f"mend {number}" for number in self.links(link)))
 
     # ---- What came of it ----
-    def run(self):
+    def play(self):
         """Runs the program, if anything was added since it ran."""
         if self.records is None:
-            self.records = result(self.program, self.script)
+            self.records = result(self.program, f"{self.script}counts\n")
         return self
 
     def tables(self):
         """The metric by router and by owner of the prefix. Without a route there is none."""
         tables = [{} for _ in self.routers]
-        for record in self.run().records:
+        for record in self.play().records:
             if record["record"] == "start":
                 for router, table in zip(record["routers"], tables):
                     table.update({route["prefix"]: route["metric"] for route in router["routes"]})
@@ -126,9 +151,17 @@ class Network:
                 for router, table in zip(self.routers, tables)}
 
     def counts(self):
-        """How many datagrams were sent since the start, and how many entries are in them, Requests included."""
-        sent = [datagram["bytes"] for record in self.run().records for datagram in record.get("sent", ())]
-        return {"datagrams": len(sent), "entries": sum((len(data) // 2 - HEADER) // ENTRY for data in sent)}
+        """The numbers of the line `counts` (docs/SCRIPTS.md) at the end: datagrams, entries of Responses, bytes, updates and more. `last` is
+        when a forwarding table changed last, or None."""
+        return {name: number for name, number in self.play().records[-1].items() if name not in ("line", "record")}
+
+    def numbers(self, seconds, by_router=False):
+        """The lines of `lab --csv` (docs/RESEARCH.md), as maps."""
+        return rows(lab(self.program, self.script, "--csv", str(seconds), *(("--by", "router") if by_router else ())))
+
+    def sweep(self, first, last):
+        """The lines of `lab --seeds` (docs/RESEARCH.md), as maps. `status` is 1 for a seed with which a line is refused or not met."""
+        return rows(lab(self.program, self.script, "--seeds", f"{first}..{last}"))
 
     # ---- Names ----
     def name(self, router):

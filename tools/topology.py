@@ -1,13 +1,14 @@
 #!/usr/bin/env python3
 """A network from a file of another program, or of a usual shape, as a script of `ripngd lab`.
 
-    tools/topology.py FILE [--cost NAME] [--rounds N]
-    tools/topology.py ring N | line N | star N | grid WIDTH HEIGHT | tree N [CHILDREN] [--rounds N]
-    tools/topology.py ba N LINKS | waxman N [BETA ALPHA] [--seed SEED] [--rounds N]
+    tools/topology.py FILE [--cost NAME] [--owners N] [--rounds N]
+    tools/topology.py ring N | line N | star N | grid WIDTH HEIGHT | tree N [CHILDREN] [--owners N] [--rounds N]
+    tools/topology.py ba N LINKS | waxman N [BETA ALPHA] [--seed SEED] [--owners N] [--rounds N]
 
 FILE is GraphML (.graphml, .xml), node-link JSON of NetworkX (.json), a topology of containerlab (.yml, .yaml), or else a list of edges, a
 line A B or A B COST for each. A file has the cost of an edge in its attribute `cost`, or in NAME; an edge without it costs 1. Each node is
-a router that owns a prefix, each edge a link. With --rounds the script goes on: so many rounds, and all tables are printed.
+a router that owns a prefix, each edge a link. With --owners so many routers own one, spread over the numbers of all. With --rounds the
+script goes on: so many rounds, and all tables are printed.
 
 The script goes to standard output, with status 0. Otherwise the status is 1, and standard error has one line that says what is wrong and
 where. A file that is named as a shape is written ./NAME.
@@ -25,7 +26,7 @@ import graphs
 from graphs import Fault
 
 # Limits of a script (docs/SCRIPTS.md) and of a router (docs/PROTOCOL.md).
-ROUTERS, INTERFACES, COSTS, ROUNDS = 64, 256, range(1, 16), range(1, 1001)
+ROUTERS, INTERFACES, COSTS, ROUNDS = 4096, 256, range(1, 16), range(1, 1001)
 # How many milliseconds are from one round to the next: the period of regular updates with the random word 0.
 GAP = 15_000
 # Each shape: what makes it, the least of each of its numbers (0 for a share of one), and how many of them have to be there.
@@ -48,11 +49,11 @@ class Words(argparse.ArgumentParser):
 
 def number(word, least):
     """A number of a shape, which is at least so great; or a share of one, if the least is 0."""
-    if least and re.fullmatch(r"\d{1,4}", word) and int(word) >= least:
+    if least and re.fullmatch(r"\d{1,5}", word) and int(word) >= least:
         return int(word)
     if not least and re.fullmatch(r"\d(\.\d+)?", word) and 0 < float(word) <= 1:
         return float(word)
-    raise Fault(f"{word} is no number from {least} to 9999" if least else f"{word} is no number above 0 and at most 1")
+    raise Fault(f"{word} is no number from {least} to 99999" if least else f"{word} is no number above 0 and at most 1")
 
 
 def too_many(name, line=None):
@@ -120,7 +121,14 @@ def owned(router):
     return f"2001:db8:{router + 1:x}::/48"
 
 
-def routers_of(graph, names):
+def owners_of(routers, count):
+    """The numbers of so many routers, spread over those of all."""
+    if not 1 <= count <= routers:
+        raise Fault(f"owners are 1 to {routers}, one for each router, and not {count}")
+    return {number * routers // count for number in range(count)}
+
+
+def routers_of(graph, names, owners):
     """The lines of all routers. A router without edges gets an interface on a link of its own, since each has to have one."""
     ifaces = [[] for _ in names]
     for link, edge in enumerate(graph.edges):
@@ -133,17 +141,19 @@ def routers_of(graph, names):
             ifaces[router].append(f"1 {spare} # it has no edge")
             spare += 1
         lines += [f"iface fe80::{router + 1:x}:{number:x} {rest}" for number, rest in enumerate(ifaces[router])]
-        lines.append(f"own {owned(router)} 0")
+        if router in owners:
+            lines.append(f"own {owned(router)} 0")
     return lines
 
 
-def script_of(graph, title, rounds=None):
-    """The script of a graph, and the names of its routers."""
+def script_of(graph, title, rounds=None, owners=None):
+    """The script of a graph, and the names of its routers, all of which own a prefix if no number of owners is given."""
     names = names_of([node.label for node in graph.nodes])
     check(graph, names)
+    owning = owners_of(len(names), len(names) if owners is None else owners)
     parts = graph.parts()
     lines = [f"# {remark(title)}: {len(names)} routers, {len(graph.edges)} links" + (f", in {parts} parts that no link joins" if parts > 1 else "")]
-    lines += [*routers_of(graph, names), "cold 0"]
+    lines += [*routers_of(graph, names, owning), "cold 0"]
     if rounds:
         lines += [f"rounds {rounds} 0 {GAP}", "print"]
     return "\n".join(lines) + "\n", names
@@ -156,6 +166,7 @@ def said(words):
     parser.add_argument("numbers", nargs="*", metavar="N")
     parser.add_argument("--cost", default="cost", metavar="NAME", help="the attribute of an edge that is its cost")
     parser.add_argument("--seed", type=int, default=0, metavar="SEED", help="of ba and waxman, 0 if none is given")
+    parser.add_argument("--owners", type=int, metavar="N", help="how many routers own a prefix, all if none is given")
     parser.add_argument("--rounds", type=int, metavar="N", help="rounds that follow the start, 1 to 1,000")
     return parser.parse_intermixed_args(words)
 
@@ -167,10 +178,10 @@ def written(options):
     if options.what in SHAPES:
         seed = f", seed {options.seed}" if options.what in RANDOM else ""
         title = " ".join([options.what, *options.numbers]) + seed
-        return script_of(made(options.what, options.numbers, options.seed), title, options.rounds)[0]
+        return script_of(made(options.what, options.numbers, options.seed), title, options.rounds, options.owners)[0]
     if options.numbers:
         raise Fault(f"this is no shape, and nothing may follow the file: {options.numbers[0]}")
-    return script_of(graph_files.read(options.what, options.cost), options.what.rpartition("/")[2], options.rounds)[0]
+    return script_of(graph_files.read(options.what, options.cost), options.what.rpartition("/")[2], options.rounds, options.owners)[0]
 
 
 def main(words, out, err):

@@ -18,7 +18,7 @@ from least import REGULAR
 from reloads import reload
 from spaces import COMPANION, ROOT, Bird, Ours, same, until
 
-sys.path.insert(0, str(ROOT / "links"))
+sys.path.insert(0, str(ROOT / "companion"))
 
 from asking import ask  # noqa: E402
 

@@ -88,6 +88,9 @@ def a_flood(net, program):
     until(TRIGGERED, "one of the flood is learned, and told", lambda: bird.table().get("2001:db8:bad::/48") == 3)
 
     until(REGULAR, "all of the flood is taken", lambda: sum(map(arrivals, ours.ctl("neighbors"))) >= 3000)
+    link = ours.link("to-s")
+    counted = link["arrivals"] >= 3000, sum(one["arrivals"] for one in link["neighbors"]) < 3000
+    same("whether the link counts them, also those that have no line", counted, (True, True))
     until(5, "it has no more files", lambda: len(list(pathlib.Path(f"/proc/{ours.process.pid}/fd").iterdir())) <= before)
     answer = "255 " + " ".join(f"2001:db8:{name}::/48" for name in ("1", "2", "10", "bad"))
     same("the answer to a later neighbor", stranger(s, "request"), answer)
@@ -195,16 +198,16 @@ def links_come_and_go(net, program):
 
 
 def the_page(net, program):
-    """What README shows: BIRD by links/bird.sh, and a route of its in the kernel."""
+    """What README shows: BIRD by companion/bird.sh, and a route of its in the kernel."""
     here, folder = net.space("h"), net.folder / "run"
     folder.mkdir()
     (folder / "ripngd").symlink_to(program)
-    words = ["env", f"SPACE={net.name}-bird", ROOT / "links/bird.sh"]
+    words = ["env", f"SPACE={net.name}-bird", ROOT / "companion/bird.sh"]
     net.spaces.append(f"{net.name}-bird")
     here.do(*words)
     try:
         found = [f"RUNTIME_DIRECTORY={folder}", f"PATH={folder}:{os.environ['PATH']}"]
-        here.start("companion", "env", *found, sys.executable, COMPANION, "--unproved", ROOT / "links/bird.toml")
+        here.start("companion", "env", *found, sys.executable, COMPANION, "--unproved", ROOT / "companion/bird.toml")
         until(REGULAR, "the route is there", lambda: "via" in here.ip("-6", "route", "show", "2001:db8:b::/48", "proto", "152"))
     finally:
         here.do(*words, "down", check=False)

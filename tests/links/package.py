@@ -15,7 +15,7 @@ cp "$2" "$1/system/packages/1.deb"
 cp "$3" "$1/system/packages/2.deb"
 within() { chroot "$1/system" env PATH=/usr/sbin:/usr/bin:/sbin:/bin sh -c "$2"; }
 within "$1" 'dpkg -i /packages/1.deb > /dev/null; ripngd --version; ripngd-links --help | head -n 1; dpkg -V frr ripngd'
-within "$1" 'test -x /usr/share/doc/ripngd/links/bird.sh; ls /usr/share/man/man8/*ripngd*.8.gz /usr/share/doc/ripngd/docs/lab.html'
+within "$1" 'test -x /usr/share/doc/ripngd/companion/bird.sh; ls /usr/share/man/man8/*ripngd*.8.gz /usr/share/doc/ripngd/docs/lab.html'
 within "$1" 'for unit in ripngd ripngd-links; do sed -n "s/^ExecStart=\\([^ ]*\\).*/\\1/p" /usr/lib/systemd/system/$unit@.service; done'
 within "$1" 'ripngd-links check --unproved /etc/ripngd-links/sample.toml 2> /dev/null'
 within "$1" 'zcat /usr/share/doc/ripngd/changelog.gz | sed -n "1s/(.*)//p; 3p; \$s/ -- .*/--/p"; cat /var/lib/dpkg/info/ripngd.conffiles'

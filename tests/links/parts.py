@@ -14,7 +14,7 @@ import sys
 import time
 
 ROOT = pathlib.Path(__file__).resolve().parent.parent.parent
-sys.path.insert(0, str(ROOT / "links"))
+sys.path.insert(0, str(ROOT / "companion"))
 sys.dont_write_bytecode = True
 
 import kernel  # noqa: E402

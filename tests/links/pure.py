@@ -10,7 +10,7 @@ import time
 from types import SimpleNamespace
 
 ROOT = pathlib.Path(__file__).resolve().parent.parent.parent
-sys.path.insert(0, str(ROOT / "links"))
+sys.path.insert(0, str(ROOT / "companion"))
 
 import events  # noqa: E402
 import lines  # noqa: E402
@@ -81,6 +81,24 @@ def martians_are_refused():
     same("where they are wanted", table.Link("a", martians=True).lists(), {})
     outward = {"passive": True, "announce": ["::/0"], "announce_not": ["2001:db8::/32+"]}
     same("what is told there", table.Link("a", martians=True, **outward).lists(), outward)
+
+
+def a_default_is_told():
+    """A link that is to be told a default route gets it, no other link does, and the router owns it."""
+    words = [{"device": "up"}, {"device": "down", "default_originate": True}, {"device": "lab", "default_originate": True, "announce": ["2001:db8::/32"]}]
+    told = table.checked(table.Table(link=words, prefix=[{"prefix": "2001:db8::/32"}]))
+    same("what is owned", [owned.prefix for owned in told.prefix], ["2001:db8::/32", "::/0"])
+    same("what is told", [(link.announce, link.announce_not) for link in told.link], [([], ["::/0"]), ([], []), (["2001:db8::/32", "::/0"], [])])
+    plain = table.checked(table.Table(link=[{"device": "up"}]))
+    same("without it", (plain.prefix, plain.link[0].announce_not), ([], []))
+    own = table.checked(table.Table(link=[{"device": "up", "default_originate": True}], prefix=[{"prefix": "::/0", "tag": 7}]))
+    same("where it is owned already", [(owned.prefix, owned.tag) for owned in own.prefix], [("::/0", 7)])
+    try:
+        table.checked(table.Table(link=[{"device": "up", "default_originate": True, "announce_not": ["::/0+"]}]))
+    except table.Fault as fault:
+        same("what contradicts", str(fault), "link[0]: default_originate is true, and announce_not has ::/0+")
+        return
+    raise Wrong("both are taken")
 
 
 def message(kind, body):
@@ -254,7 +272,11 @@ def a_link_is_asked():
         link.PATIENCE = before
 
 
-COUNTED = """interface 0 address fe80::1 cost 1 mtu 1500
+COUNTED = """interface 0 address fe80::1 cost 1 mtu 1500 triggered 6 queued 9 answers 8 arrivals 7 responses 5 entries 2 last 4000
+refused 1 Short 1
+refused 10 HopLimit 3
+noted 22 BadMetric 2
+noted 25 NotAccepted 4
 now 9000 routes 7
 arrivals 12 sends 5 failed 0
 refused 10 HopLimit 2
@@ -284,11 +306,12 @@ def what_the_router_says():
          {"routes": 7, "arrivals": 12, "lost_steps": 2, "answers": True, "log_failed": False})
     same("what it refused", (told["router"]["refused"]["HopLimit"], told["router"]["refused"]["Short"]), (2, 0))
     link, other = told["links"]
-    same("the link's", {key: link[key] for key in ("mtu", "routes", "arrivals", "bad_packets", "bad_routes", "not_accepted")},
-         {"mtu": 1500, "routes": 2, "arrivals": 3, "bad_packets": 2, "bad_routes": 0, "not_accepted": 4})
+    counted = {"mtu": 1500, "routes": 2, "triggered_updates": 6, "queued": 9, "queued_answers": 8, "arrivals": 7, "responses": 5}
+    counted |= {"bad_packets": 4, "bad_routes": 2, "not_accepted": 4, "limit_reached": 0}
+    same("the link's, which are no sums of its neighbors", {key: link[key] for key in counted}, counted)
     [one] = link["neighbors"]
     same("the neighbor's", (one["address"], one["routes"], one["response_seconds_ago"], one["refused"]["HopLimit"]), ("fe80::5", 1, 5.0, 2))
-    same("of a link without a router", (other["neighbors"], other["arrivals"]), ([], 0))
+    same("of a link without a router", (other["neighbors"], other["arrivals"], other["triggered_updates"], other["queued"]), ([], 0, 0, None))
 
 
 def of_the_shape(told, start=""):
@@ -321,4 +344,4 @@ def a_shape():
 
 CASES = [links_of_a_table, what_needs_a_new_router, what_a_reload_changes, martians_are_refused, what_the_kernel_tells, states_of_links]
 CASES += [neighbors_come_and_go, limits_are_said, changes_of_routes, lines_of_a_flood, what_the_router_says, a_shape]
-CASES += [a_router_that_hangs, a_link_is_asked]
+CASES += [a_router_that_hangs, a_link_is_asked, a_default_is_told]

@@ -82,7 +82,8 @@ def links_that_are_not_there(net, program):
     same("a second one", (done.returncode, done.stderr), (3, why))
     text = subprocess.run([sys.executable, COMPANION, "status", ours.run], capture_output=True, text=True, check=True).stdout
     neighbor = f"  neighbor {next(iter(ours.kernel().values()))['gateway']}, last Response \\d+ s ago, 1 routes"
-    links = ("to-b is up, address .*, interface 0, cost 1, mtu \\d+", "eth9 is not there", "lan7 is not there, stub")
+    counts = "  triggered updates \\d+, queued 0, queued answers 0, bad packets 0, bad routes 0"
+    links = ("to-b is up, address .*, interface 0, cost 1, mtu \\d+", counts, "eth9 is not there", "lan7 is not there, stub")
     for line in ("router is up, .*", "kernel has 1 routes, refused 0", *links, neighbor):
         same(f"whether status says `{line}`", re.search(f"^{line}$", text, re.M) is not None, True)
 

@@ -12,7 +12,7 @@ import time
 
 HERE = pathlib.Path(__file__).resolve().parent
 ROOT = HERE.parent.parent
-COMPANION = ROOT / "links/ripngd-links"
+COMPANION = ROOT / "companion/ripngd-links"
 FRR = pathlib.Path("/usr/lib/frr")
 PROTOCOL = 152
 INFINITY = 16

@@ -1,5 +1,5 @@
 """Records of what a router did in one run: the calls of its link, and its deeds, as crates/ripngd_engine/specs/Link.antt and
-crates/ripngd_networks/specs/Daemons.antt have them. They are read from the calls of the system that tests/recorded/calls.c noted.
+crates/ripngd_theorems/specs/Daemons.antt have them. They are read from the calls of the system that tests/recorded/calls.c noted.
 
 Moments of the true clock are in nanoseconds, a router's own in milliseconds since its clock was made."""
 

@@ -1,5 +1,5 @@
 """The premises of safety, field by field: `AreRunning` of crates/ripngd_runs/specs/Networks.antt, and `IsGiven` with what it is made of, of
-crates/ripngd_networks/specs/Links.antt. Each function returns why a field does not hold of a history, or nothing."""
+crates/ripngd_theorems/specs/Links.antt. Each function returns why a field does not hold of a history, or nothing."""
 
 import dataclasses
 import functools

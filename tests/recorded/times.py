@@ -1,4 +1,4 @@
-"""The premises of healing and of forgetting, field by field: `GoOn`, `KeepsTime` and `AreOnTime` of crates/ripngd_networks/specs/OnTime.antt,
+"""The premises of healing and of forgetting, field by field: `GoOn`, `KeepsTime` and `AreOnTime` of crates/ripngd_theorems/specs/OnTime.antt,
 and `GoOnAnyhow` of specs/Ages.antt. They speak of a stretch of a history, by the true clock, in milliseconds. Each function returns why a
 field does not hold of a stretch, or nothing."""
 

@@ -1,7 +1,7 @@
 #!/usr/bin/env python3
 """How many rounds random networks need until each table has the least costs of now, and nothing else below 16:
 
-    tools/rounds_needed.py PROGRAM [NETWORKS]
+    tests/rounds_needed.py PROGRAM [NETWORKS]
 
 PROGRAM is ripngd. Much happens in each of so many networks (100 if none is named) of 3 to 12 routers: datagrams are lost, come
 late, twice and in any order, routers restart, costs change and prefixes move. Then rounds are made, 15 seconds apart. Prints a
@@ -10,11 +10,9 @@ network needed more than 26.
 """
 import collections
 import os
-import pathlib
 import random
 import sys
 
-sys.path.insert(0, str(pathlib.Path(__file__).resolve().parent.parent / "tests"))
 from networks import Network, Owner, Port, lab, lines_of
 
 PREFIXES = ["2001:db8::/48", "2001:db8:1::/48", "2001:db8:2::/48"]
