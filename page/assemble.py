@@ -1,12 +1,13 @@
 #!/usr/bin/env python3
 """The laboratory in one file, docs/lab.html: the page with the module, the lessons and the examples in it.
 
-    page/assemble.py page MODULE KIT WASM_OPT proved|unproved     prints the file, with that module, and says what made the module
+    page/assemble.py page MODULE KIT WASM_OPT proved|unproved     prints the file, with that module, and says what made the module; MODULE
+                                                                  may be such a file, whose module is taken as it stands there
     page/assemble.py sum sources|code                             prints the sum of all sources, or of those of the module
     page/assemble.py fact NAME FILE                               prints what a file notes: sources, code, kit, wasm-opt or proof
     page/assemble.py module FILE                                  prints the module of a file
 
-The page is put together of page/src: into frame.html go style.css and the modules, of whose script and style its policy has the hashes.
+The page is put together of page/src: into frame.html go the styles and the modules, of whose script and style its policy has the hashes.
 The modules stand in one script, so their imports, the word `export` and lines that are a remark alone are left out.
 """
 import base64
@@ -16,14 +17,16 @@ import pathlib
 import re
 import subprocess
 import sys
+import zlib
 
 PAGE = pathlib.Path(__file__).resolve().parent
 ROOT = PAGE.parent
 # The modules in order, of the page and of its worker.
-PAGE_MODULES = ["trace", "losses", "datagrams", "pcap", "packets", "walks", "building", "numbering", "losing", "branching", "removing", "lessons", "layout", "placing", "markup",
-                "texts", "asking", "filtering", "tables", "acting", "forwarding", "plot", "detail", "quiz", "marks", "drawing", "showing", "keeping", "laboratory", "playing",
+PAGE_MODULES = ["trace", "losses", "datagrams", "pcap", "packets", "walks", "building", "numbering", "losing", "branching", "removing", "lessons", "veiling", "exercises", "varying", "layout", "placing", "markup",
+                "texts", "asking", "filtering", "tables", "acting", "forwarding", "plot", "detail", "quiz", "marks", "timeline", "outsiders", "running", "drawing", "versions", "edges", "comparing", "showing", "keeping", "languages", "laboratory", "playing",
                 "editor", "giving", "acts", "keys", "page"]
 WORKER_MODULES = ["module", "worker"]
+STYLES = ["style", "beside"]
 FACTS = ("sources", "code", "kit", "wasm-opt", "proof")
 MADE = {"proved": "It was compiled from the proved sources", "unproved": "It was compiled from the sources without their proof"}
 
@@ -62,6 +65,11 @@ def scripts():
                      for kind, file, mark in [*lessons, *others])
 
 
+def words():
+    """The words of other languages, each an element with its name."""
+    return "\n".join(f'<div class="words" data-language="{file.stem}" hidden>\n{escaped(file.read_text())}</div>' for file in sorted((PAGE / "words").glob("*.txt")))
+
+
 def hash_of(text):
     """The hash of what stands between the tags of a script or a style, as a policy names it."""
     return base64.b64encode(hashlib.sha256(text.encode()).digest()).decode()
@@ -77,8 +85,8 @@ def page(module, *facts):
     metas = "\n".join(f'<meta name="{name}" content="{html.escape(value)}">' for name, value in noted.items())
     made = f"{MADE[noted['proof']]}, by {noted['kit']} and wasm-opt {noted['wasm-opt']}. The sum of the sources is <code>{noted['sources'][:16]}</code>."
     parts = {
-        "facts": metas, "made": made, "style": (PAGE / "src/style.css").read_text().rstrip("\n"), "scripts": scripts(),
-        "module": base64.b64encode(pathlib.Path(module).read_bytes()).decode(), "worker": escaped(joined(WORKER_MODULES)),
+        "facts": metas, "made": made, "style": "".join((PAGE / f"src/{name}.css").read_text() for name in STYLES).rstrip("\n"), "scripts": scripts(), "words": words(),
+        "module": packed_of(pathlib.Path(module)), "worker": escaped(joined(WORKER_MODULES)),
         "script": joined(PAGE_MODULES),
     }
     text = (PAGE / "src/frame.html").read_text()
@@ -103,7 +111,7 @@ def code():
 
 def sources():
     """What the file is made of: the module, the page, and the scripts."""
-    return [*code(), PAGE / "assemble.py", *(PAGE / "src").iterdir(), *(ROOT / "examples").rglob("*.lab"), ROOT / "examples/lessons/course.txt"]
+    return [*code(), PAGE / "assemble.py", *(PAGE / "src").iterdir(), *(PAGE / "words").iterdir(), *(ROOT / "examples").rglob("*.lab"), ROOT / "examples/lessons/course.txt"]
 
 
 def sum_of(what):
@@ -119,8 +127,22 @@ def fact(name, file):
     return html.unescape(found[1]) if found else ""
 
 
+def packed_in(file):
+    """The module of a file as it stands there, and its bytes. In files of before it is not packed."""
+    text = re.search('<div id="module" hidden(?:="")?>(.*?)</div>', file.read_text())[1]
+    data = base64.b64decode(text)
+    return (None, data) if data.startswith(b"\0asm") else (text, zlib.decompress(data, -15))
+
+
+def packed_of(module):
+    """A module as it stands in a file: without what repeats (RFC 1951), in letters."""
+    text, data = packed_in(module) if module.suffix == ".html" else (None, module.read_bytes())
+    deflate = zlib.compressobj(9, zlib.DEFLATED, -15)
+    return text or base64.b64encode(deflate.compress(data) + deflate.flush()).decode()
+
+
 def module_of(file):
-    return base64.b64decode(re.search('<div id="module" hidden(?:="")?>(.*?)</div>', pathlib.Path(file).read_text())[1])
+    return packed_in(pathlib.Path(file))[1]
 
 
 def main(way, *words):

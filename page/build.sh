@@ -55,7 +55,7 @@ make_unproved() {
 check() {
     local failed=0
     page/assemble.py module "$file" > "$room/lab.wasm"
-    page/assemble.py page "$room/lab.wasm" "$(noted kit)" "$(noted wasm-opt)" "$(noted proof)" > "$room/lab.html"
+    page/assemble.py page "$file" "$(noted kit)" "$(noted wasm-opt)" "$(noted proof)" > "$room/lab.html"
     cmp -s "$room/lab.html" "$file" || { echo "$file is not that of the sources: page/build.sh makes it again"; failed=1; }
     [ "$(noted code)" = "$(page/assemble.py sum code)" ] || { echo "the module of $file is not that of the sources"; failed=1; }
     [ "$(noted proof)" = proved ] || { echo "the module of $file is not made of proved libraries"; failed=1; }
@@ -67,7 +67,7 @@ check_module() {
     local status=0
     if [ "$(noted kit)" != "$(kit)" ] || [ "$(noted wasm-opt)" != "$(wasm_opt)" ]; then
         echo "skipped: another kit or another wasm-opt than those of $file is here, so its module is not made again"
-    elif [ ! -d crates/ripngd_trace/out/rlib ]; then
+    elif [ ! -d crates/ripng_trace/out/rlib ]; then
         echo "skipped: the libraries are not here, so the module of $file is not made again"
     else
         page/wasm.sh . "$room/again.wasm" > "$room/said" 2>&1 || status=$?

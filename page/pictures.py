@@ -1,8 +1,9 @@
 #!/usr/bin/env python3
 """Makes a picture of each example at a telling step, docs/pictures/NAME.png, with the walk behind a router's metric and where its packets
-go, as *present* shows them. Needs Chromium.
+go, as *present* shows them; and preview.png, which stands beside links to the page: a ring that counts, with its time diagram. Needs
+Chromium.
 
-    page/pictures.py
+    page/pictures.py [FILE]      of docs/lab.html, or of another such page
 """
 import collections
 import os
@@ -18,8 +19,10 @@ import browser  # noqa: E402
 
 # Each with the step and the router.
 PICTURES = {"counting": (36, 1), "healing": (38, 0), "line": (10, 1), "moving": (9, 1), "rounds": (20, 3), "square": (31, 3)}
-FILE = os.path.realpath(os.path.join(ROOT, "docs/lab.html"))
+FILE = os.path.join(ROOT, "docs/lab.html")
 SIZE = (760, 800)
+# What those who link to a page take for a picture beside it.
+PREVIEW, PREVIEW_SIZE = "preview", (1200, 630)
 
 
 # ---- Small files ----
@@ -70,21 +73,34 @@ def small(png):
         struct.pack(">I", len(part)) + name + part + struct.pack(">I", zlib.crc32(name + part)) for name, part in parts)
 
 
-def main():
+def taken(page, file, words, step, acts):
+    """The picture of a step, once what is named there has been done."""
+    page.open(f"file://{os.path.realpath(file)}#{words}&step={step}")
+    page.wait(f'document.getElementById("where").textContent.startsWith("step {step} ")', 60)
+    for act in acts:
+        page.value(f'document.querySelector("[data-act={act}]").click()')
+    with tempfile.NamedTemporaryFile(suffix=".png") as picture:
+        page.picture(picture.name)
+        return small(picture.read())
+
+
+def keep(name, picture):
+    with open(os.path.join(ROOT, f"docs/pictures/{name}.png"), "wb") as file:
+        file.write(picture)
+
+
+def main(file=FILE):
     page = browser.open_browser("chromium", *SIZE)
     try:
         for name, (step, router) in PICTURES.items():
-            page.open(f"file://{FILE}#{name}&step={step}&router={router}&prefix=2001:db8::/32")
-            page.wait(f'document.getElementById("where").textContent.startsWith("step {step} ") && document.querySelector("#walk") !== null', 60)
-            page.value('document.querySelector("[data-act=present]").click()')
-            with tempfile.NamedTemporaryFile(suffix=".png") as taken:
-                page.picture(taken.name)
-                picture = small(taken.read())
-            with open(os.path.join(ROOT, f"docs/pictures/{name}.png"), "wb") as file:
-                file.write(picture)
+            keep(name, taken(page, file, f"{name}&router={router}&prefix=2001:db8::/32", step, ["present"]))
+        page.size(*PREVIEW_SIZE)
+        keep(PREVIEW, taken(page, file, "ring-of-three", 40, ["times", "present"]))
     finally:
         page.close()
 
 
 if __name__ == "__main__":
-    main()
+    if len(sys.argv) > 2:
+        sys.exit(__doc__)
+    main(*sys.argv[1:])

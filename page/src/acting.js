@@ -67,12 +67,18 @@ function linkForm(state, router) {
 
 // ---- A link, at one end ----
 // Whether scripts have a line of that word.
-const hasLine = word => LINES.some(([form]) => form.startsWith(`${word} `));
+export const hasLine = word => LINES.some(([form]) => form.startsWith(`${word} `));
+
+// Whether the routers of a link have noticed that it is out: then it comes up, and is not mended in silence.
+const isDownAt = (state, link) => {
+  const line = stepOfNew(state).out.get(`link ${link}`);
+  return line !== undefined && state.trace.steps.some(({ record }) => record.line === line && record.event?.kind === 'link_down');
+};
 
 // A link is cut and mended silently; or it goes down and comes up, which its routers notice.
-function linkActs(link, isCut) {
-  const silent = isCut ? does('mend the link', `mend ${link}`, 'c') : does('cut the link', `cut ${link}`, 'c');
-  const loud = !hasLine('down') ? '' : isCut ? does('bring it up', `up ${link} {now}`) : does('take it down', `down ${link} {now}`);
+function linkActs(link, isCut, isDown) {
+  const silent = isDown ? '' : isCut ? does('mend the link', `mend ${link}`, 'c') : does('cut the link', `cut ${link}`, 'c');
+  const loud = isDown ? does('bring it up', `up ${link} {now}`, 'c') : isCut ? '' : does('take it down', `down ${link} {now}`);
   const known = loud ? ' Taken down, its routers notice at once.' : '';
   return html`${choices(html`${silent}${loud}${removes('link', link)}`)}
     ${isCut ? '' : html`<p class="faint">A cut is silent: nobody is told, and a route over it is kept until it times out, 180 s
@@ -86,18 +92,22 @@ function ifaceDetail(state, { router, iface }) {
     : more.length === 0 ? does('set it at both ends', `cost ${router} ${iface} {now} {cost}\ncost ${other.router} ${other.iface} +0 {cost}`) : '';
   return html`<h2>Link ${link}${other ? ` to ${otherEnds(trace, end).map(one => nameOf(trace, one.router)).join(', ')}` : ''},
     at ${nameOf(trace, router)}'s interface ${iface}</h2><p>${addr}, cost ${cost}, MTU ${mtu}.</p>
-    ${linkActs(link, isCut)}
+    ${linkActs(link, isCut, isDownAt(state, link))}
     ${choices(html`${moment(state)}${count(state, 'cost', 'cost', cost, 1, 15)}
       ${does('set it', `cost ${router} ${iface} {now} {cost}`)}${both}`)}${forgeries(state, router, iface)}`;
 }
 
-// A host that is no router asks, or forges a Response; one from outside the link is seen through, one on the link is not.
+// A host that is no router asks, or forges a Response; one from outside the link is seen through, one on the link is not. What is
+// sent to the group comes to each router of the link that is up, to this one last; over a cut link to this one alone.
 function forgeries(state, router, iface) {
-  const from = `stranger ${router} ${iface} {now} {source} {port} {hop} group`;
+  const { trace } = state, from = `stranger ${router} ${iface} {now} {source} {port} {hop} group`, end = trace.ends[router][iface];
+  const others = isOut(state, `link ${end.link}`) ? [] : otherEnds(trace, end).filter(one => !isOut(state, `router ${one.router}`));
+  const hearers = [...others, end], toAll = (word, rest) => hearers.map((one, at) => `${word} ${one.router} ${one.iface} ${at > 0 ? '+0' : '{now}'} ${rest}`).join('\n');
   return html`${choices(html`<b>A forged Response</b> ${field(state, 'source', 'from', 'fe80::66', html`size="9"`)}
       ${prefixField(state, '2001:db8::/32')}${count(state, 'metric', 'metric', 1, 1, 16)}
-      ${does('forged from outside the link (refused)', `stranger ${router} ${iface} {now} {source} 521 254 group {lie}`)}
-      ${does('forged on the link (believed)', `liar ${router} ${iface} {now} {source} {lie}`)}`)}
+      ${does('forged from outside the link (refused)', toAll('stranger', '{source} 521 254 group {lie}'))}
+      ${does('forged on the link (believed)', toAll('liar', '{source} {lie}'))}`)}
+    <p class="faint">Both come to ${hearers.map(one => nameOf(trace, one.router)).join(' and ')}.</p>
     <details ${state.typed.port ? html`open` : ''}><summary>other datagrams of a host that is no router</summary>
     ${choices(html`${count(state, 'port', 'port', 521, 0, 65535)}${count(state, 'hop', 'hop limit', 255, 0, 255)}
       ${does('it asks for all routes', `${from} {ask}`)}${does('it sends that Response', `${from} {lie}`)}`)}</details>`;

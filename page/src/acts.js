@@ -3,12 +3,15 @@ import { named, nameOf, prefixInView, readTrace } from './trace.js';
 import { oneResponse, wholeRequest } from './datagrams.js';
 import { captureOf } from './pcap.js';
 import { targetIn } from './packets.js';
-import { inserted, joined, networkScript, ownLines, withName, withPlaces } from './building.js';
+import { inserted, joined, mostOf, networkScript, ownLines, withName, withPlaces } from './building.js';
+import { networkFrom } from './edges.js';
 import { stepsByLine, turnsOf } from './losses.js';
 import { losing } from './losing.js';
 import { branched, branchesOf, switched, withoutBranch } from './branching.js';
 import { without } from './removing.js';
-import { metricIn, runnable, withAnswer } from './lessons.js';
+import { metricIn, runnable } from './lessons.js';
+import { answered, blanked, solutionOf, triesOf } from './exercises.js';
+import { varied } from './varying.js';
 import { comparisonOf, hasChanged, printed } from './tables.js';
 import { html } from './markup.js';
 import { markGuess, reveal } from './quiz.js';
@@ -49,10 +52,17 @@ async function canPutIn() {
     say('This is what happens without asking. To change the script, press "with asking" first.', true);
     return false;
   }
+  if (isOpen()) {
+    say('This is an exercise: fill in its blanks first. Then the network is yours.', true);
+    return false;
+  }
   if (!view.refused || setsAside()) return true;
   say(`Line ${view.refused.line} is refused, so no line after it is reached. Correct it first, or undo.`, true);
   return false;
 }
+
+// Whether a blank is open: then nothing is done that would show what it asks.
+const isOpen = () => view.checks.some(({ isBlank }) => isBlank);
 
 // Lines are put in where the list says: at the end, or behind the line of this step.
 async function putIn(lines, values = {}, said = '') {
@@ -126,6 +136,7 @@ function dropBranch({ dataset }) {
 
 // What the routers hold at the end of each, beside each other, where it is not the same.
 function compareBranch({ dataset }) {
+  if (isOpen()) return say('This is an exercise: fill in its blanks first.', true);
   const { number, here, there } = branchesOf(editor.text).find(one => one.number === Number(dataset.number)) ?? branchesOf(editor.text)[0] ?? {};
   if (!number) return say('There is no branch.', true);
   const script = switched(editor.text, number);
@@ -139,7 +150,7 @@ function compareBranch({ dataset }) {
 // The run without asking is made once it is wanted. It takes the place of the other, at the same moment, or stands beside it.
 async function showAsking(way) {
   const { asking, script } = view, plain = asking && withoutAsking(script);
-  if (!asking) return say('No line of this script is "asking".', true);
+  if (!asking || view.isQuiz) return say('No line of this script is "asking".', true);
   if (!asking.other) await runScript(() => traced(plain), answer => {
     const other = readTrace(answer, plain);
     Object.assign(asking, { other, others: wiringOf(other) });
@@ -154,10 +165,23 @@ async function showAsking(way) {
 }
 const ASKING_WAYS = ['with', 'beside', 'without'];
 
+// ---- Networks of other programs ----
+// What is wrong in the list stays beside it.
+function makeOfEdges() {
+  const { script, fault } = networkFrom(byId('edges').value);
+  byId('pasted').textContent = fault ?? '';
+  if (!script) return undefined;
+  byId('pasting').close();
+  return openScript(script, 'network.lab');
+}
+
 // ---- Quiz, and blanks ----
 function toggleQuiz(button) {
-  Object.assign(view, { isQuiz: toggle(button, 'quiz'), chosen: null });
+  if (view.way !== 'with') showAsking('with');
+  view.isQuiz = toggle(button, 'quiz');
+  Object.assign(view, { chosen: null, trace: shownOf(view.whole, view.checks), eventsFrom: null });
   render();
+  if (view.versus) compareWith(view.versus.kind);
 }
 function markAll() {
   for (const input of byId('quiz').querySelectorAll('[data-guess]')) markGuess(view, Number(input.dataset.guess), input.value);
@@ -168,30 +192,50 @@ function showGuesses(routers) {
   render();
 }
 
-// How many blanks are filled in with this one, and how many of them at the first try.
-function blanksText() {
-  const done = [...view.tries.values()], open = view.checks.filter(({ isBlank }) => isBlank).length - 1;
-  const isDone = line => !view.checks.some(check => check.line === line && check.isBlank), filled = [...view.tries.keys()].filter(isDone).length + 1;
-  return `${filled} of ${filled + open}, ${done.filter(wrong => wrong === 0).length} at the first try.`;
-}
-
-// A right answer takes the place of the blank in the script; a wrong one is said to be wrong.
+// An answer is kept in the script: a right one in the place of the blank, and of a wrong one that it was.
 function answerBlank(line) {
   const { found } = view.checks.find(check => check.line === line), text = byId('checks').querySelector(`[data-blank="${line}"]`).value;
   const metric = metricIn(text);
   if (metric === null) return say('A metric is 1 to 16, or none.', true);
+  const script = answered(editor.text, line, metric, found), { step, since } = view;
   view.wrong = metric === found ? null : { line, text: metric };
-  view.tries.set(line, (view.tries.get(line) ?? 0) + (view.wrong ? 1 : 0));
-  if (view.wrong) return render();
-  const { step, since } = view;
-  return change({ script: withAnswer(editor.text, line, found) }, line, line, `Right. ${blanksText()}`).then(() => go(step, since, false));
+  if (view.wrong) {
+    keepText(script, showDraft);
+    return render();
+  }
+  const { all, filled, first } = triesOf(script), said = `Right. ${filled} of ${all}, ${first} at the first try.`;
+  return change({ script }, line, line, said).then(() => go(step, since, false));
+}
+
+function hint({ dataset }) {
+  view.hints.add(Number(dataset.line));
+  render();
+}
+const toBlank = () => go(view.checks.find(({ isBlank }) => isBlank)?.step ?? view.step);
+
+// The name of the exercise that a draft is of, and its text.
+function exerciseOf({ name, text }) {
+  const own = [name, bareName(name), bareName(bareName(name))].find(one => SCRIPTS.has(one));
+  return { name: own ?? name, text: own ? SCRIPTS.get(own).text : blanked(text) };
+}
+function openVaried(name, text, seed) {
+  return openScript(varied(text, seed), name.replace(/(\.lab)?$/, `-${seed}.lab`));
+}
+function otherNumbers() {
+  const { name, text } = exerciseOf(editor);
+  return openVaried(name, text, 1 + Math.floor(999 * Math.random()));
+}
+function saveSolution() {
+  download('-solved.lab', solutionOf(editor.text, exerciseOf(editor).name), 'text/plain');
 }
 
 // ---- Places, and other ways to show ----
 // Where routers were moved stands in the script.
-function keepPlaces() {
+const keepPlaces = () => keepText(withPlaces(editor.text, view.shifts));
+// A text whose trace is the same, with a state to go back to or without.
+function keepText(text, keep = ({ text: next }) => setDraft(next)) {
   const isRan = view.ran === editor.text, isShown = view.script === editor.text;
-  setDraft(withPlaces(editor.text, view.shifts));
+  keep({ text, name: nameFor(text) });
   if (isRan) view.ran = editor.text;
   if (isShown) view.script = editor.text;
 }
@@ -237,17 +281,22 @@ const ACTS = {
   film: saveFilm,
   save: () => download('.lab', editor.text, 'text/plain'),
   load: () => byId('file').click(),
-  pcap: () => view.wiring && download('.pcapng', captureOf(view.trace), 'application/octet-stream'),
+  pcap: () => view.wiring && (isOpen() ? say('This is an exercise: fill in its blanks first.', true) : download('.pcapng', captureOf(view.trace), 'application/octet-stream')),
   svg: () => view.wiring && download('.svg', drawingAlone(), 'image/svg+xml'),
   copy: () => copy(printed(current()), `The routes at step ${view.step + 1}`),
   round: () => putIn(`round ${nextRound()}`, {}, passedBy()),
   rounds: () => putIn(`rounds 5 ${nextRound()} 30000`, {}, passedBy()),
+  runMinute: () => putIn('run +60000'),
   ticks: () => putIn(view.trace.ends.map((_, router) => `tick ${router} ${nextRound()} 0`).join('\n')),
   hear: () => putIn('hear'),
   help: () => byId('help').showModal(),
   close: button => button.closest('dialog').close(),
   tidy() { view.shifts = []; keepPlaces(); render(); },
+  times: () => toggleView('hasTimes'),
+  hops: () => toggleView('hasHops'),
+  send: () => toggleView('isSending'),
   fromAll() { view.isFromAll = !view.isFromAll; render(); },
+  makePasted: makeOfEdges,
   zoomIn: () => zoomTo(view.room * 1.4),
   zoomOut: () => zoomTo(view.room / 1.4),
   zoomWhole: () => zoomTo(1),
@@ -256,7 +305,8 @@ const ACTS = {
   letGo: () => choose(null),
   toNetwork: () => byId('drawing').querySelector('[tabindex="0"]')?.focus(),
   asking: ({ dataset }) => showAsking(dataset.way),
-  answer: ({ dataset }) => answerBlank(Number(dataset.line)),
+  answer: ({ dataset }) => answerBlank(Number(dataset.line)), hint, toBlank, otherNumbers, saveSolution,
+  saveExercise: () => download('-blank.lab', blanked(editor.text), 'text/plain'),
   reveal: ({ dataset }) => showGuesses([Number(dataset.router)]),
   revealAll: () => showGuesses(view.trace.ends.keys()),
   lessonBefore: () => toLesson(-1),
@@ -264,7 +314,11 @@ const ACTS = {
 };
 // Those that read the fields beside them.
 const MAKES = {
-  make: ({ shape, many }) => openScript(networkScript(shape, Number(many)), `${shape}-${many}.lab`.replace(/ /g, '-')),
+  make({ shape, many }) {
+    if (shape === 'list') return byId('pasting').showModal();
+    if (Number(many) > mostOf(shape)) return say(`A network of the shape "${shape}" has at most ${mostOf(shape)} routers here.`, true);
+    return openScript(networkScript(shape, Number(many)), `${shape}-${many}.lab`.replace(/ /g, '-'));
+  },
   packet({ target }) {
     const asked = targetIn(target);
     if (!asked) return say('That is no address and no prefix of IPv6.', true);

@@ -3,15 +3,18 @@ import { nameOf, prefixInView, routeAt } from './trace.js';
 import { UNREACHABLE } from './datagrams.js';
 import { html } from './markup.js';
 
-const ASKING = /^asking(?: |$)/, EXPECTED_OF_IT = /^(?:asking|expect|refused)(?: |$)/, isBare = line => /^\s*(?:#|$)/.test(line);
+const ASKING = /^asking(?: |$)/, EXPECTED_OF_IT = /^(?:expect|refused)(?: |$)/, isBare = line => /^\s*(?:#|$)/.test(line);
 export const hasAsking = script => script.split('\n').some(line => ASKING.test(line));
 
-// The script without asking; each line keeps its number. What it expects, and a line that is to be refused, are of the run
-// with asking: they are remarks here.
-export function withoutAsking(script) {
+// The script without asking.
+export const withoutAsking = script => withoutLines(script, line => ASKING.test(line));
+
+// The script without some lines; each line keeps its number. What it expects, and a line that is to be refused, are of the run
+// with them: they are remarks here.
+export function withoutLines(script, isWithout) {
   let isRefused = false;
-  return script.split('\n').map(line => {
-    const isLeftOut = EXPECTED_OF_IT.test(line) || isRefused && !isBare(line);
+  return script.split('\n').map((line, at) => {
+    const isLeftOut = EXPECTED_OF_IT.test(line) || isWithout(line, at + 1) || isRefused && !isBare(line);
     isRefused = line.startsWith('refused') || isRefused && isBare(line);
     return isLeftOut ? `#${line}` : line;
   }).join('\n');
@@ -42,7 +45,7 @@ export function askingText(view) {
     : html`${rows.map(([name, asked, waits], index) => html`${index > 0 ? '; ' : ''}<b>${name}</b>: ${asked} with asking, ${waits} without`)}.${ends}`;
 }
 
-function heldText(trace, state, router, prefix) {
+export function heldText(trace, state, router, prefix) {
   const metric = routeAt(state, router, prefix)?.metric, cause = state.routers[router].table.get(prefix)?.cause;
   if (metric < UNREACHABLE) return `metric ${metric}`;
   if (!metric) return 'no route';

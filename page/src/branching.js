@@ -70,16 +70,16 @@ export function withoutBranch(script, number) {
 }
 
 // Of a line that has not ended at a step, lines that do what it did up to there; null where it has ended, or is one that is done
-// whole: a minute made by chance, or a link that goes down at both ends.
+// whole: phases made by chance, or a link that goes down at both ends.
 export function begunAt(trace, script, step) {
   const { steps } = trace, { line } = steps[step].record, words = (script.split('\n')[line - 1] ?? '').split(' ');
-  if (steps[step + 1]?.record.line !== line || !/^(round|rounds|tell|hear)$/.test(words[0])) return null;
-  const own = [...steps.keys()].filter(one => steps[one].record.line === line), turns = words[0] === 'hear' ? [own] : turnsOf(steps, own);
+  if (steps[step + 1]?.record.line !== line || !/^(round|rounds|tell|hear|run)$/.test(words[0])) return null;
+  const own = [...steps.keys()].filter(one => steps[one].record.line === line), turns = /^(hear|run)$/.test(words[0]) ? [own] : turnsOf(steps, own);
   const turn = turns.findIndex(one => one.includes(step)), from = steps[own[0]].record.now, gap = Number(words[3]);
   const whole = turn === 0 ? [] : [turn === 1 ? `round ${from}` : `rounds ${turn} ${from} ${gap}`];
   const word = words[0] === 'tell' && /^\d+$/.test(words[3]) ? words[3] : 0;
   const events = turns[turn].filter(one => one <= step).map(one => steps[one].record).filter(({ event }) => /^(tick|deliver|liar)$/.test(event?.kind));
-  return [...whole, ...passedBefore(trace, script, turns[turn], words[0]), ...events.map(record => lineDoing(record, word))];
+  return [...whole, ...passedBefore(trace, script, turns[turn], words[0]), ...events.map(record => lineDoing(record, words[0] === 'run' ? record.event.word : word))];
 }
 const lineDoing = ({ router, now, event }, word) =>
   event.kind === 'tick' ? `tick ${router} ${now} ${word}` : `deliver ${event.datagram} ${router} ${event.iface} ${now}`;

@@ -25,16 +25,27 @@ export const SHAPES = {
   'all to all': count => SHAPES.star(count).flatMap(([, to]) => upTo(to, from => [from, to])),
 };
 
-// The script of a new network of that shape: costs are 1, and router 0 owns a prefix. Its remark says what to do next.
+// The most routers of a shape: a router has at most 256 interfaces, and what has many links would be a long script.
+const MOST_ROUTERS = { star: 257, 'all to all': 64 };
+export const mostOf = shape => MOST_ROUTERS[shape] ?? 4096;
+
+// The script of a new network of that shape: costs are 1, and router 0 owns a prefix.
 export function networkScript(shape, count) {
-  const links = SHAPES[shape](count);
-  const lines = ['# R0 originates a prefix. Press "round": every router sends its update, and all arrive.',
-    '# Click a link to cut it, a router to do more, and a metric to ask why.'];
-  for (let router = 0; router < count; router++) {
-    const own = links.flatMap((link, number) => link.includes(router) ? [number] : []);
-    lines.push('router', ...own.map((link, iface) => `iface ${address(router, iface)} 1 1280 ${link}`));
+  return networkOf({ names: Array(count).fill(''), links: SHAPES[shape](count).map(routers => ({ routers, cost: 1 })) });
+}
+
+// The script of a network of routers, by their names or without, and links, each with its routers and its cost. The first owns a
+// prefix; one without links gets a link of its own. The remark says what to do next.
+export function networkOf({ names, links }) {
+  const lines = ['# Press "round": every router sends its update, and all arrive.',
+    '# Click a link to cut it, a router to do more, and a metric to ask why.'], owned = names.map(() => []);
+  links.forEach(({ routers, cost }, link) => routers.forEach(router => owned[router].push([cost, link])));
+  let free = links.length;
+  names.forEach((name, router) => {
+    if (owned[router].length === 0) owned[router].push([1, free++]);
+    lines.push(`router ${name}`.trim(), ...owned[router].map(([cost, link], iface) => `iface ${address(router, iface)} ${cost} 1280 ${link}`));
     if (router === 0) lines.push('own 2001:db8::/32 0');
-  }
+  });
   return [...lines, 'cold 0', ''].join('\n');
 }
 

@@ -16,7 +16,7 @@ export function entriesOf(hex) {
 
 export function decode(hex) {
   const lines = entriesOf(hex).map(({ address, prefix, tag, metric }, index) =>
-    `${index} ${metric === 255 ? `nexthop ${address}` : `${prefix} tag ${tag} metric ${metric}`}`);
+    `${index} ${metric === 255 ? `nexthop ${address}` : `${prefix} tag ${tag} metric ${metric || '?'}`}`);
   return [`${hex.startsWith('01') ? 'request' : 'response'} entries ${lines.length}`, ...lines].join('\n');
 }
 

@@ -6,7 +6,7 @@ import { LINES, describe, hintOf, whyAsks, plural, refusals, seconds } from './t
 import { badIf, headsOf, isLiedTo } from './tables.js';
 import { ACTIONS, actsHere } from './acting.js';
 import { packetDetail, packetText } from './forwarding.js';
-import { isAsked } from './lessons.js';
+import { isAsked } from './veiling.js';
 import { plotOf } from './plot.js';
 import { choice, classes, html } from './markup.js';
 
@@ -62,8 +62,7 @@ function offersText(view) {
   const rowOfOffer = ({ prefix, told, cost, offered, before = 'none', after = 'none', outcome }) => html`<tr>
     <td>${prefix}</td><td>${told}</td>
     <td>${told >= UNREACHABLE ? 'none: unreachable' : told + cost > offered ? `${told} + ${cost} is past 15: ${offered}` : `${told} + ${cost} = ${offered}`}</td>
-    <td>${isAsked(view, router, prefix, step - 1) ? '?' : before}</td>${isAsked(view, router, prefix) ? html`<td>?</td><td>?</td>`
-    : html`<td>${after}</td><td>${outcome}</td>`}</tr>`;
+    <td>${before}</td><td>${after}</td><td>${outcome}</td></tr>`;
   return offers.length === 0 ? '' : html`<table id="offers"><caption>How ${nameOf(trace, router)} processes it</caption>
     ${headsOf(['prefix', 'advertised', 'plus link cost', 'old metric', 'new metric', 'outcome'])}
     <tbody>${offers.map(rowOfOffer)}</tbody></table>`;
@@ -78,7 +77,7 @@ function updatesText(view) {
       ${seconds(routers[router].timers.hold)}.</p>`;
   }
   const entryText = ({ prefix, metric, isPoisoned }) => html`<span class="${classes(isPoisoned && 'poisoned')}">${prefix} at
-    ${isAsked(view, router, prefix) && !isPoisoned ? '?' : metric}${isPoisoned ? ' (poisoned reverse)' : ''}</span>`;
+    ${isAsked(view, router, prefix) ? '?' : metric || '?'}${isPoisoned ? ' (poisoned reverse)' : ''}</span>`;
   const listOf = ({ isRequest, entries }) => {
     if (isRequest) return `a Request for all routes${asks ? `: ${whyAsks(asks, prefix => isAsked(view, router, prefix))}` : ''}`;
     const more = entries.length > MOST_ENTRIES ? `, and ${entries.length - MOST_ENTRIES} more` : '';
@@ -92,7 +91,7 @@ function updatesText(view) {
 
 // ---- Why this metric? ----
 function routeDetail(state, { router, prefix }) {
-  if (isAsked(state, router, prefix)) return html`<h2>A blank asks for this metric. Fill it in, and the page says why.</h2>`;
+  if (isAsked(state, router, prefix)) return state.isQuiz ? html`<h2>This is what the quiz asks.</h2>` : html`<h2>A blank asks for this metric, or for one that it comes from. Fill it in, and the page says why.</h2>`;
   const { trace, step } = state, now = trace.steps[step], entry = now.routers[router].table.get(prefix);
   const cost = leastCosts(trace, now, prefix)[router], name = nameOf(trace, router);
   const least = html`<p>${cost < UNREACHABLE ? `The shortest path, as the network is now, costs ${cost}.`

@@ -7,19 +7,21 @@ import { fitted } from './layout.js';
 import { boxAt, costPoint, labelPoint, platesOf, pointBy } from './placing.js';
 import { hasChanged } from './tables.js';
 import { marksOf } from './marks.js';
+import { drawOutsiders } from './outsiders.js';
+import { drawRun, runnersOf } from './running.js';
 import { guessed } from './quiz.js';
-import { isAsked } from './lessons.js';
+import { isAsked, isHushed } from './veiling.js';
 import { choice, classes, html } from './markup.js';
 
-// The walk behind the metric that was chosen, and where packets go: beside it, or alone.
+// The walk behind the metric that was chosen, and where packets go: beside it, or alone; or the next hops of all routers.
 function chosenWalk(view) {
   const { trace, step, chosen } = view;
   const { kind, router, prefix, target = prefix } = named(chosen, trace) ?? {}, state = trace.steps[step];
-  const isOpen = view.checks?.some(({ isBlank }) => isBlank);
+  const isOpen = isHushed(view), toAll = target ?? prefixInView(view);
   const isHidden = kind === 'route' && isAsked(view, router, prefix);
   const entry = kind === 'route' && !isHidden ? state.routers[router].table.get(prefix) : null;
   const packet = target && !isHidden && !isOpen ? pathOf(trace, state, router, target) : { way: [], hops: [], end: 'delivered', lost: null };
-  if (kind === 'packet' && view.isFromAll && !isOpen) packet.all = waysOf(trace, state, target);
+  if ((view.hasHops || kind === 'packet' && view.isFromAll) && toAll && !isOpen) packet.all = waysOf(trace, state, toAll);
   return { ...entry ? walkOf(trace, router, entry) : { hops: [], owner: null }, packet };
 }
 
@@ -37,6 +39,7 @@ export function drawingOf(state) {
     html`${drawPackets(scene)}${drawDropped(scene)}
       ${scene.walk.hops.map((hop, index) => drawHop(scene, hop, index))}`,
     ...all(drawRouter), ...atEnds(drawCost), ...all(drawLabel), ...all(drawMetric), ...marksOf(scene),
+    html`${drawOutsiders(scene)}`, html`${drawRuns(scene)}`,
   ];
   return { ...fit, parts };
 }
@@ -67,15 +70,21 @@ function drawCost({ trace, fit, plates, costs, routers, chosen }, wire, { router
 }
 
 // A name stands in the circle where it is short.
-const LEAST_LETTERS = 8.5;
+const LEAST_LETTERS = 8.5, SEEN_LETTERS = 4.5;
 const lettersIn = ({ fit: { radius }, routers }, router, name) =>
-  Math.min(0.78 * radius, 1.84 * (radius - (routers[router].prefixes.length > 0 ? 3 : 0)) / (0.6 * name.length));
+  Math.min(0.78 * radius, 1.7 * (radius - (routers[router].prefixes.length > 0 ? 3 : 0)) / (0.6 * name.length));
 const isInside = (scene, router) => lettersIn(scene, router, nameOf(scene.trace, router)) >= LEAST_LETTERS;
+// All names of a drawing are as large as the least that stands in its circle.
+function lettersOf(scene) {
+  const insideOf = router => isInside(scene, router) ? nameOf(scene.trace, router) : `R${router}`;
+  scene.letters ??= Math.min(...scene.routers.map((_, router) => lettersIn(scene, router, insideOf(router))));
+  return scene.letters;
+}
 
 function drawRouter(scene, router) {
   const { trace, fit: { places, radius }, walk, record, chosen, prefix, out } = scene;
   const { quiet, prefixes } = scene.routers[router], metric = routeAt(scene, router, prefix)?.metric, name = nameOf(trace, router);
-  const { x, y } = places[router], inside = isInside(scene, router) ? name : `R${router}`;
+  const { x, y } = places[router], inside = isInside(scene, router) ? name : `R${router}`, letters = lettersOf(scene);
   const walked = router === walk.owner || walk.hops.some(hop => hop.end.router === router), text = `router ${router}`;
   const is = { quiet, silent: out.has(text), moved: record.router === router, changed: !scene.isQuiz && hasChanged(scene, router, prefix),
     walked, chosen: chosen === text };
@@ -85,8 +94,8 @@ function drawRouter(scene, router) {
   const label = `${name}${manner}${owns}${metric && !isHidden ? `, metric ${metric} for ${prefix}` : ''}`;
   return html`<g class="router ${classes(...Object.keys(is).filter(one => is[one]))}" data-router="${router}"
     ${choice(text, label, chosen)}><circle cx="${x}" cy="${y}" r="${radius}"/>
-    ${prefixes.length > 0 ? html`<circle class="owner" cx="${x}" cy="${y}" r="${radius - 3}"/>` : ''}
-    <text x="${x}" y="${y}" font-size="${lettersIn(scene, router, inside)}">${inside}</text><title>${label}</title></g>`;
+    ${prefixes.length > 0 ? html`<circle class="owner" cx="${x}" cy="${y}" r="${Math.max(1, radius - 3)}"/>` : ''}
+    ${letters < SEEN_LETTERS ? '' : html`<text x="${x}" y="${y}" font-size="${letters}">${inside}</text>`}<title>${label}</title></g>`;
 }
 
 // The metric at a corner of a router: a click asks why.
@@ -150,9 +159,16 @@ function drawPacket(scene, { from, to }, { isLoop, isLost, isBeyond }) {
     d="${path(pointsOf(scene, from, to, -5))}" marker-end="url(#${isAstray ? 'arrow-astray' : 'arrow-packet'})"/>`;
 }
 
+// Packets that run, while they are asked for.
+function drawRuns(scene) {
+  const { kind, router, target = scene.prefix } = named(scene.chosen, scene.trace) ?? {}, isOne = /^(router|route|packet)$/.test(kind);
+  if (!scene.isSending || !target || isHushed(scene)) return '';
+  return runnersOf(scene, isOne ? router : undefined).map(one => drawRun({ ...scene, target }, one, ({ from, to }) => pointsOf(scene, from, to, -5)));
+}
+
 // A cross at the router that drops it.
-function drawDropped({ walk: { packet: { way, end, lost } }, fit: { places, radius } }) {
-  if (lost || !/^(noRoute|nobodys)$/.test(end)) return '';
+function drawDropped({ isSending, walk: { packet: { way, end, lost } }, fit: { places, radius } }) {
+  if (isSending || lost || !/^(noRoute|nobodys)$/.test(end)) return '';
   const { x, y } = places[way.at(-1)], [left, top, size] = [x - 0.75 * radius - 12, y + 0.75 * radius, 10];
   return html`<path class="cross" d="M${left} ${top}l${size} ${size}m0 ${-size}l${-size} ${size}"><title>dropped here</title></path>`;
 }

@@ -83,11 +83,17 @@ function showScripts() {
   if (editor.listed !== names.join()) {
     fill('examples', html`<option value="" disabled>${editor.isShared ? 'shared script' : 'own script'}</option>${groups.map(([kind, listed]) =>
       html`<optgroup label="${kind}">${listed.map(name =>
-        html`<option value="${name}">${name.replace(/\.lab$/, '').replace(/^(own-)?exercise-/, '$1ex. ')}</option>`)}</optgroup>`)}`);
+        html`<option value="${name}">${titleInList(name)}</option>`)}</optgroup>`)}`);
   }
   editor.listed = names.join();
   byId('examples').value = editor.name;
   if (byId('examples').selectedIndex < 0) byId('examples').value = '';
+}
+
+// A lesson has its place in the course before its name.
+function titleInList(name) {
+  const at = lessonNames().indexOf(name), bare = name.replace(/\.lab$/, '');
+  return at < 0 ? bare.replace(/^(own-)?exercise-/, '$1ex. ') : `${at + 1} ${bare.replace(/^\d+-/, '')}`;
 }
 
 // Where a lesson stands among all.
@@ -138,7 +144,7 @@ const redo = () => travel(editor.future, editor.past);
 // Another script takes the place of the draft, which can be gone back to.
 function openScript(text, name, isShared = false) {
   const lines = plainLines(text);
-  Object.assign(view, { chosen: null, room: 1, tries: new Map() });
+  Object.assign(view, { chosen: null, room: 1, hints: new Set(), wrong: null });
   byId('welcome').hidden = true;
   setDraft(lines, isShared || SCRIPTS.has(name) ? name : freeName(name, lines), isShared);
   return runDraft(() => 0);

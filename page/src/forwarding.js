@@ -2,13 +2,13 @@
 import { nameOf, prefixInView } from './trace.js';
 import { wayText } from './walks.js';
 import { pathOf, waysOf } from './packets.js';
-import { isAsked } from './lessons.js';
+import { isAsked } from './veiling.js';
 import { badIf, headsOf } from './tables.js';
 import { choices, packetForm } from './acting.js';
 import { html } from './markup.js';
 
 // How a way ends by the tables, in words.
-const ENDS = {
+export const ENDS = {
   delivered: ({ way, last }) => way.length > 1 ? `delivered: ${last} originates it` : 'delivered: it is here already',
   noRoute: ({ last }) => `dropped: ${last} has no route`,
   nobodys: ({ last, nextHop }) => `dropped: the next hop of ${last}, ${nextHop}, is nobody's on that link`,
@@ -20,7 +20,7 @@ export function packetText(trace, now, router, target) {
   const path = pathOf(trace, now, router, target), { way, end, loops } = path, name = number => nameOf(trace, number);
   const words = { way, last: name(way.at(-1)), nextHop: path.nobodys, back: name(way[loops ?? 0]) };
   return html`<p id="packet" class="${badIf(end !== 'delivered')}">A packet for ${target} from here, by the tables:
-    <b>${wayText(trace, way)}</b>, ${ENDS[end](words)}.</p>${lossText(trace, now, path)}`;
+    <b>${wayText(trace, way)}</b>, ${path.lost && end === 'delivered' ? `to ${words.last}, which originates it` : ENDS[end](words)}.</p>${lossText(trace, now, path)}`;
 }
 
 function lossText(trace, { out }, { lost, hops, end }) {

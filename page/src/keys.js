@@ -46,6 +46,7 @@ const press = act => () => buttonOf(act).click();
 const LETTERS = {
   r: press('round'), f: press('rounds'), u: press('untilChange'), p: press('present'), q: press('quiz'), m: press('matrix'),
   '+': press('zoomIn'), '-': press('zoomOut'), 0: press('zoomWhole'), '/': () => byId('filter').focus(),
+  t: press('times'), h: press('hops'), x: press('send'), e: () => byId('pasting').showModal(), i: press('runMinute'),
   k: () => toBranch({ dataset: {} }), j: () => compareBranch({ dataset: {} }),
   a: () => showAsking(ASKING_WAYS[(ASKING_WAYS.indexOf(view.way) + 1) % ASKING_WAYS.length]), n: press('lessonAfter'), b: press('lessonBefore'), '?': press('help'),
   c: target => ofChosen('c', target), l: target => ofChosen('l', target), w: target => ofChosen('w', target),
@@ -59,6 +60,7 @@ const WANTED = { c: 'Choose a link or a router first.', l: 'Choose a datagram fi
   Delete: 'Choose a link or a router first.' };
 function ofChosen(letter, target, otherwise = () => say(WANTED[letter], true)) {
   const text = target.closest('#drawing [data-choose]')?.dataset.choose, [kind, number] = (text ?? view.chosen ?? '').split(' ');
+  if (view.isQuiz && /[gw]/.test(letter)) return undefined;
   if (/[gw]/.test(letter) && kind === 'router') {
     view.chosen = `${letter === 'w' ? 'route' : 'packet'} ${number} ${prefixInView(view)}`;
     return renderChosen();
@@ -101,7 +103,7 @@ function hushToast() {
 
 // The arrows up and down go through the things of a pane.
 function stepWithin(target, key) {
-  const pane = target.closest('#drawing, #tables, #events'), items = pane ? itemsOf(pane) : [];
+  const pane = target.closest('#drawing, #timeline, #tables, #events'), items = pane ? itemsOf(pane) : [];
   const way = { ArrowDown: 1, ArrowUp: -1 }[key], next = way && items[items.indexOf(target) + way];
   return next ? () => next.focus() : null;
 }

@@ -2,7 +2,6 @@
 import { routeAt } from './trace.js';
 import { namesOf } from './building.js';
 import { UNREACHABLE, prefixKey } from './datagrams.js';
-import { isSameTarget } from './packets.js';
 
 // A remark without its drawing: what stands behind an empty remark line and is indented, or has a link in it. What
 // the page writes, places and branches, and a line that was set aside are no remarks.
@@ -35,14 +34,25 @@ export function captionsOf(script) {
   return captions;
 }
 
+// A caption with the names that routers have in the drawing: "router 1" is R1, and "routers 1 and 2" are R1 and R2.
+export function withDrawnNames(caption, nameOf) {
+  return caption.replace(/\b[Rr]outers? (\d+(?:(?:, | and | to )\d+)*)\b/g, (_, numbers) => numbers.replace(/\d+/g, number => nameOf(Number(number))));
+}
+
 // A caption in two: what it says, and the answer that it ends with.
 export function withAnswerApart(caption) {
   const [prose, answer = ''] = caption.split(/\s*\bAnswer: */);
   return { prose, answer };
 }
 
-// What a caption asks, for a quiz, in which no caption tells a metric: up to its last question mark, without an answer.
+// What is told of a caption in a quiz: what it asks, up to its last question mark, and each sentence behind it that tells no number and
+// nothing of a result; no answer.
 export const questionIn = caption => /^[^]*\?/.exec(caption.split('Answer:')[0])?.[0] ?? '';
+const TELLS = /\d|\b(?:none|nothing|no (?:route|path)|infinity|unreachable|believes?|keeps?|poison\w*|lost|gone|loop|worse|better|again)\b/i;
+export function toldInQuiz(caption) {
+  const asked = questionIn(caption), rest = caption.split('Answer:')[0].slice(asked.length).trim();
+  return [asked, ...rest.split(/(?<=[.:;!]) +/).filter(text => text && !TELLS.test(text))].filter(Boolean).join(' ').trim();
+}
 
 // The text of a file as a script: what editors put at its start and at the ends of lines goes, and a tab is a blank.
 const plainLine = line => /^(#|say )/.test(line) ? line : line.replaceAll('\t', ' ');
@@ -52,7 +62,13 @@ export const plainLines = text =>
 // ---- Expectations ----
 // `expect R PREFIX ?` has a blank: the page runs the script with a remark in its place.
 const EXPECTED = /^expect (\S+) (\S+) (\?|\d+|none)(?= *(?:#|$))/;
-export const runnable = script => script.replace(/^expect \S+ \S+ \?(?= *(?:#|$))/gm, '#$&');
+// Of an exercise it marks each answer itself, and a wrong one is a blank.
+export const runnable = script =>
+  script.replace(isExercise(script) ? /^expect \S+ \S+ (?:\?|\d+|none)(?= *(?:#|$))/gm : /^expect \S+ \S+ \?(?= *(?:#|$))/gm, '#$&');
+
+// Whether a script has blanks, or had some that were filled in here (`exercises.js`).
+const IS_EXERCISE = /^# Exercise\b|^expect \S+ \S+ (?:\?(?= *(?:#|$))|\S+ *#.*\b(?:first try|try \d+)$)/m;
+export const isExercise = script => IS_EXERCISE.test(script);
 
 export function expectationsOf(script) {
   const numbers = new Map([...namesOf(script)].map(([router, name]) => [name, router]));
@@ -65,7 +81,7 @@ export function expectationsOf(script) {
 // A script with an answer in the place of the blank of a line.
 export function withAnswer(script, line, answer) {
   const lines = script.split('\n');
-  return lines.with(line - 1, lines[line - 1].replace(/^(expect \S+ \S+) \?/, `$1 ${answer}`)).join('\n');
+  return lines.with(line - 1, lines[line - 1].replace(/^(expect \S+ \S+) \S+/, `$1 ${answer}`)).join('\n');
 }
 
 // What a router has at a step: a metric or `none`, as `expect` writes it.
@@ -75,22 +91,15 @@ export function foundAt(state, router, prefix) {
   return String((direct ?? like())?.metric ?? 'none');
 }
 
-// Each expectation that the run came to, with the step behind which it stands, and what was found there.
-export function checksOf({ steps, ends }, expectations) {
+// Each expectation that the run came to, with the step behind which it stands, and what was found there. In an exercise one that is
+// not met is as open as a blank.
+export function checksOf({ steps, ends }, expectations, isMarked = false) {
   const last = steps.at(-1)?.record, reached = last?.record === 'refused' ? last.line : Infinity;
   const before = line => steps.findLastIndex(({ record }) => record.line < line && record.record !== 'refused');
   return expectations.filter(({ line, router }) => line <= reached && ends[router] && before(line) >= 0).map(one => {
     const step = before(one.line), found = foundAt(steps[step], one.router, one.prefix);
-    return { ...one, step, found, isBlank: one.wanted === '?', isMet: one.wanted === found };
+    return { ...one, step, found, isBlank: one.wanted === '?' || isMarked && one.wanted !== found, isMet: one.wanted === found };
   });
-}
-
-// Whether a blank asks for a metric where the next expectations stand, at a step or later. Until it is filled in the page does
-// not tell that metric.
-const asksFor = (router, prefix) => one => one.isBlank && one.router === router && isSameTarget(one.prefix.toLowerCase(), prefix);
-export function isAsked({ checks = [], step }, router, prefix, at = step) {
-  const next = checks.find(one => one.step >= at)?.step;
-  return checks.filter(one => one.step === next).some(asksFor(router, prefix));
 }
 
 // What a text says as a metric: a number from 1 to 16, or none; else null.

@@ -10,6 +10,7 @@ export function losing(trace, script, number, step, line) {
   if (!arrival) return edit(script, line, 0, [`lose ${number}`], 0);
   const { record } = trace.steps[arrival.step], at = record.line - 1, [text, remark = ''] = lines[at].split(/(?= +#)/);
   const words = text.split(' '), way = WAYS[words[0]];
+  if (words[0] === 'run') return { why: `It comes in a run. Choose another SEED, or "link ${end.link} 0 50" before it: half of what is sent there is lost then.` };
   if (!way) return { why: 'It comes in a minute made by chance. Choose another SEED, or rounds.' };
   return way({ trace, script, number, at, words, remark, step: arrival.step, isShared: trace.links.get(end.link).length > 2 });
 }

@@ -2,15 +2,17 @@
 // what was overtaken and never comes.
 
 // Lines that deliver all that was sent; what they leave out, nobody is to receive. (docs/SCRIPTS.md, Passed by.)
-const DELIVERING = /^(round|rounds|tell|hear|phases)( |$)/;
+const DELIVERING = /^(round|rounds|tell|hear|phases|run)( |$)/;
+// A run delivers what is under way when it is due: at its end more may be, which a later run delivers, though no `hear`.
+const isRun = text => /^run /.test(text ?? '');
 
 // A passing is a step at which all datagrams with a number `below` are passed by.
 export function addLosses(trace, script) {
-  const passings = passingsOf(trace, script.split('\n'));
+  const lines = script.split('\n'), passings = passingsOf(trace, lines).filter(({ line }) => !isRun(lines[line - 1])), overdue = overdueBy(trace, lines);
   let next = 0;
   for (const datagram of trace.datagrams) {
     while (passings[next]?.below <= datagram.datagram) next++;
-    if (datagram.doneAt === Infinity) datagram.lostAt = lossOf(trace, datagram, passings, next);
+    if (datagram.doneAt === Infinity) datagram.lostAt = Math.min(lossOf(trace, datagram, passings, next), overdue(datagram));
   }
   trace.steps.forEach(({ record }, step) => {
     const lost = record.record === 'lost' ? trace.datagrams[record.datagram] : null;
@@ -29,6 +31,19 @@ function lossOf(trace, { datagram, end, sentAt, arrivals }, passings, next) {
   return Math.max(...missing.map(other => overtakenAt(later, other, latest)));
 }
 
+// In a run a datagram that has not come is lost as soon as it is later than it would have come: at once, or after the DELAY of its
+// link. What was sent before the run sets out as it begins.
+function overdueBy({ steps }, lines) {
+  const runs = [...stepsByLine(steps)].filter(([line]) => isRun(lines[line - 1])), delays = lines.map(text => /^link (\d+) (\d+)/.exec(text)?.slice(1).map(Number));
+  if (runs.length === 0) return () => Infinity;
+  return ({ sentAt, end: { link } }) => {
+    const [line, own] = runs.find(([, all]) => all.at(-1) >= sentAt) ?? [], begin = Math.max(0, (own?.[0] ?? 0) - 1);
+    if (!own) return Infinity;
+    const delay = delays.slice(0, line).findLast(one => one?.[0] === link)?.[1] ?? 0, due = steps[Math.max(sentAt, begin)].now + delay;
+    return runs.flatMap(([, all]) => all).find(step => step > sentAt && steps[step].record.event && steps[step].record.now > due) ?? Infinity;
+  };
+}
+
 // The step at which a later datagram comes to an end.
 function overtakenAt(later, end, from) {
   const steps = later.flatMap(({ arrivals }) => arrivals.filter(({ end: to, step }) => to === end && step >= from));
@@ -42,10 +57,10 @@ export function passingsOf({ steps, datagrams }, lines) {
     const own = stepsOf.get(at + 1) ?? [];
     if (!DELIVERING.test(text)) return [];
     if (own.length === 0) return emptyPassing(steps, at + 1, sentBefore);
-    const turns = text.startsWith('phases') ? [own] : turnsOf(steps, own);
+    const isByChance = /^(phases|run)/.test(text), turns = isByChance ? [own] : turnsOf(steps, own);
     return turns.map(turn => {
       const first = turn.find(step => steps[step].record.event?.datagram !== undefined) ?? turn.at(-1) + 1;
-      const below = sentBefore(text.startsWith('phases') ? turn.at(-1) + 1 : first);
+      const below = sentBefore(isByChance ? turn.at(-1) + 1 : first);
       return { line: at + 1, turn, step: turn.at(-1), below };
     });
   });

@@ -1,7 +1,7 @@
 // The datagrams of the drawing: under way, just lost, and those that come, each an envelope on its link.
 import { nameOf, onTheirWay } from './trace.js';
 import { isAskedInVain } from './losses.js';
-import { isAsked } from './lessons.js';
+import { isAsked } from './veiling.js';
 import { UNREACHABLE, entriesOf } from './datagrams.js';
 import { offersOf } from './walks.js';
 import { pointBy } from './placing.js';
@@ -25,14 +25,13 @@ export function questionText(view, { asks, answers, router }) {
 }
 const askedIn = (scene, datagram) => { const text = questionText(scene, datagram); return text && `, ${text}`; };
 
-// The metric that an envelope advertises for the prefix in view, and how a router adds to it where it comes; while a blank is
-// open, or in a quiz, neither is told.
-const isHushed = ({ isQuiz, checks = [] }) => isQuiz || checks.some(({ isBlank }) => isBlank);
-const metricTold = (scene, { bytes }) => !scene.fit.roomy || isHushed(scene) || !bytes.startsWith('02') ? undefined
-  : entriesOf(bytes).find(({ prefix }) => prefix === scene.prefix)?.metric;
+// The metric that an envelope advertises for the prefix in view, and how a router adds to it where it comes. What an open blank asks
+// for is veiled in the trace; in a quiz an envelope says what it has where it comes.
+const metricTold = (scene, { bytes, came = bytes }, isComing) => !scene.fit.roomy || scene.isQuiz && !isComing || !came.startsWith('02') ? undefined
+  : entriesOf(came).filter(({ prefix }) => prefix === scene.prefix).map(({ metric }) => metric || '?')[0];
 function sumAt(scene) {
-  const offer = isHushed(scene) ? undefined : offersOf(scene.trace, scene.step).find(({ prefix }) => prefix === scene.prefix);
-  return !offer || offer.told >= UNREACHABLE ? '' : `${offer.told} + ${offer.cost} ${offer.told + offer.cost > offer.offered ? '→' : '='} ${offer.offered}`;
+  const { told, cost, offered } = offersOf(scene.trace, scene.step).find(({ prefix }) => prefix === scene.prefix) ?? {};
+  return !told || told >= UNREACHABLE ? '' : `${told} + ${cost} ${told + cost > offered ? '→' : '='} ${offered}`;
 }
 
 const isSince = ({ since, step }, at) => at > since && at <= step;
@@ -76,15 +75,15 @@ function drawArrival(scene, { record: { router, event, fault }, isLast }) {
   const names = classes('fresh', fault && 'refused', flying && 'flying', !isLast && 'passing');
   const says = `datagram ${event.datagram} of ${nameOf(trace, datagram.router)} comes to ${nameOf(trace, router)}${askedIn(scene, datagram)}`;
   const aside = isLast && !flying && !fault && event.kind === 'deliver' ? sumAt(scene) : '';
-  return drawMark(scene, pointBy.bind(null, fit, wire, router, fit.radius + 26, 0), datagram, { names, count: 1, says, flight, aside });
+  return drawMark(scene, pointBy.bind(null, fit, wire, router, fit.radius + 26, 0), datagram, { names, count: 1, says, flight, aside, isComing: true });
 }
 
 // An envelope, at the place for what is so wide and high, with the metric that it tells, or a question; with how many it stands
 // for, on the side that is away from the wire.
-function drawMark(scene, place, datagramOf, { names, count, says, flight, aside = '' }) {
-  const { fit: { roomy }, chosen } = scene, { datagram, asks } = datagramOf, told = metricTold(scene, datagramOf);
+function drawMark(scene, place, datagramOf, { names, count, says, flight, aside = '', isComing }) {
+  const { fit: { roomy }, chosen } = scene, { datagram, asks } = datagramOf, told = metricTold(scene, datagramOf, isComing);
   const wide = roomy ? 18 : 8, high = roomy ? 12 : 6, text = `datagram ${datagram}`, { x, y } = place(wide, high);
-  const [left, right, top] = [x - wide / 2, x + wide / 2, y - high / 2], many = count > 1 ? `×${count}` : aside;
+  const [left, right, top] = [x - wide / 2, x + wide / 2, y - high / 2], many = count > 1 ? `×${count}` : '';
   const flap = `M${left} ${top}L${x} ${y + 1}L${right} ${top}`, isLost = names.includes('lost'), isLeft = x < place(0, 0).x - 1;
   const sign = asks ? '?' : told, kind = classes(asks ? 'question' : 'told', told >= UNREACHABLE && 'unreachable');
   const inside = sign ? html`<text class="${kind}" x="${x}" y="${y}">${sign}</text>` : html`<path class="flap" d="${flap}"/>`;
@@ -92,6 +91,7 @@ function drawMark(scene, place, datagramOf, { names, count, says, flight, aside 
     ${choice(text, says, chosen)}><rect class="target" x="${x - 12}" y="${y - 12}" width="24" height="24"/>
     <rect x="${left}" y="${top}" width="${wide}" height="${high}" rx="2"/>${roomy ? inside : ''}
     ${isLost ? html`<path class="cross" d="M${x - 8} ${y - 8}L${x + 8} ${y + 8}M${x + 8} ${y - 8}L${x - 8} ${y + 8}"/>` : ''}
+    ${roomy && aside ? html`<text class="sum" x="${x}" y="${y + high + 1}">${aside}</text>` : ''}
     ${roomy && many ? html`<text x="${isLeft ? left - 5 : right + 5}" y="${y}" class="${isLeft ? 'before' : ''}">${many}</text>` : ''}<title>${says}</title></g>`;
 }
 

@@ -6,7 +6,11 @@ const REFUSED = 1, NO_ROOM = 2;
 // never written of it takes no memory.
 const ROOM = 2 ** 26 - 16;
 
-export const moduleOf = base64 => WebAssembly.compile(Uint8Array.from(atob(base64), sign => sign.charCodeAt(0)));
+// The module stands in the page in letters, and without what repeats.
+export async function moduleOf(base64) {
+  const packed = new Blob([Uint8Array.from(atob(base64), sign => sign.charCodeAt(0))]).stream().pipeThrough(new DecompressionStream('deflate-raw'));
+  return WebAssembly.compile(await new Response(packed).arrayBuffer());
+}
 
 // The trace of a script, both as bytes; whether a line was refused; and how many bytes of memory it took. Each run has an
 // instance of its own, so nothing is left of one that was stopped.

@@ -1,5 +1,5 @@
 // Where packets go: by the tables of a step, hop by hop; and where they are lost that tables do not know of.
-import { UNREACHABLE, covers, prefixKey } from './datagrams.js';
+import { UNREACHABLE, covers } from './datagrams.js';
 
 // What a text asks for: an address or a prefix in small letters; null where it is neither.
 export function targetIn(text) {
@@ -69,9 +69,3 @@ export function waysOf(trace, state, target) {
     return { router, hop, fate, isLoop: loops === 0, isLost: lost?.hop === 0 };
   });
 }
-
-// Whether two texts name the same address or prefix.
-export const isSameTarget = (one, other) => {
-  const keyOf = text => prefixKey(text.includes('/') ? text : `${text}/128`);
-  return keyOf(one) === keyOf(other);
-};

@@ -15,8 +15,10 @@ function listen() {
     await openScript(await file.text(), file.name);
     target.value = '';
   };
+  byId('language').onchange = onLanguage;
   byId('filter').oninput = ({ target }) => { view.filter = target.value; render(); };
   byId('slider').oninput = ({ target }) => go(Number(target.value));
+  byId('versus').onchange = ({ target }) => compareWith(target.value);
   byId('place').onchange = ({ target }) => { view.place = target.value; render(); };
   byId('speed').onchange = () => view.timer && play(true);
   for (const id of ['detail', 'checks']) byId(id).oninput = ({ target }) => { view.typed[target.name] = target.value; };
@@ -37,11 +39,12 @@ function scriptAsked(asked) {
   return [name, `${name}.lab`].find(one => SCRIPTS.has(one)) ?? [...SCRIPTS.keys()].find(one => one.replace(/^\d+-|^exercise-\d+-/, '') === `${name}.lab`);
 }
 async function followAddress() {
-  const asked = addressed(), script = asked.get('script'), example = scriptAsked(asked);
+  const asked = addressed(), script = asked.get('script'), example = scriptAsked(asked), seed = asked.get('seed');
   const router = asked.get('router'), packet = asked.get('packet'), step = asked.get('step') ?? '';
   const text = packet ? `packet ${router} ${packet}` : `route ${router} ${asked.get('prefix')}`;
   try {
     if (script) await openShared(await unpacked(script), asked.get('name') ?? 'shared.lab');
+    else if (example && /^\d{1,9}$/.test(seed ?? '')) await openVaried(example, SCRIPTS.get(example).text, Number(seed));
     else if (example && example !== editor.name) await openNamed(example);
   } catch {
     say('The address holds no script.', true);
@@ -62,7 +65,7 @@ function writeAddress() {
   const route = kind === 'route' ? `&router=${router}&prefix=${prefix}` : kind === 'packet' ? `&router=${router}&packet=${target}` : '';
   const script = SCRIPTS.has(editor.name) ? `${encodeURIComponent(editor.name.replace(/\.lab$/, ''))}&` : '';
   clearTimeout(view.address);
-  const here = `#${script}step=${view.step + 1}${route}`, isEmbedded = document.body.classList.contains('embed');
+  const here = `#${script}step=${view.step + 1}${route}${speech.code === 'en' ? '' : `&lang=${speech.code}`}`, isEmbedded = document.body.classList.contains('embed');
   byId('whole').href = here;
   const write = () => history.replaceState(null, '', `${here}${isEmbedded ? '&embed' : ''}`);
   if (view.isUp) view.address = setTimeout(write, 300);
@@ -79,6 +82,7 @@ async function comeUp() {
   byId('welcome').hidden = shown !== start || isFilm || addressed().has('script');
   document.body.classList.toggle('embed', addressed().has('embed'));
   fill('card', html`${cardOf()}`);
+  speak(languageAsked());
   listen();
   Object.assign(editor, { past: shown.past ?? [], future: shown.future ?? [], known: new Map(shown.known ?? [[shown.name, shown.text]]) });
   showDraft(shown);

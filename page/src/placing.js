@@ -22,7 +22,7 @@ const linesOf = ({ places }, wires) => wires.map(({ from, to }) => [places[from]
 // The metric of a router stands at its upper right, or where a wire leaves there at the corner that is freest.
 const CORNERS = [[1, -1], [-1, -1], [1, 1], [-1, 1]];
 export function platesOf(fit, { wires, count }, isLarge) {
-  const { places, radius, roomy } = fit, size = isLarge ? 0.8 * radius : roomy ? 9 : 6.5, away = 0.7 * radius + 0.35 * size;
+  const { places, radius, roomy, apart } = fit, size = isLarge ? 0.8 * radius : roomy ? 9 : Math.min(6.5, 0.3 * apart), away = 0.7 * radius + 0.35 * size;
   return places.slice(0, count).map(({ x, y }, router) => {
     const corners = CORNERS.map(([right, down]) => ({ x: x + right * away, y: y + down * away, size }));
     const lines = linesOf(fit, wires.filter(({ from, to }) => from === router || to === router));

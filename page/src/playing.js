@@ -19,14 +19,15 @@ function move(direction) {
 }
 const stopFrom = (step, direction) => nextStop(view.trace, view.captions, step, byId('by').value, direction);
 
-// So many steps a second; or, at most twenty times a second, so many steps at once that all are shown within a minute.
+// So many steps a second; or all of them in a minute, one after another, or where they are many, at most twenty times a second more at once.
 function play(on) {
   const chosen = Number(byId('speed').value), many = chosen ? 1 : Math.ceil(view.trace.steps.length / 1200);
   const isLast = () => view.step >= view.trace.steps.length - 1, next = () => many > 1 ? go(view.step + many, view.step) : move(1);
   clearInterval(view.timer);
   view.timer = null;
   if (on && isLast()) go(0);
-  if (on) view.timer = setInterval(() => isLast() ? play(false) : next(), 1000 / (chosen || 20));
+  const pause = chosen ? 1000 / chosen : Math.max(50, Math.min(2000, 60_000 / view.trace.steps.length));
+  if (on) view.timer = setInterval(() => isLast() ? play(false) : next(), pause);
   byId('run').textContent = on ? 'stop' : 'run';
 }
 

@@ -7,11 +7,14 @@ import { html } from './markup.js';
 const guessKey = (view, router) => `${view.step} ${router} ${prefixInView(view)}`;
 const guessOf = (view, router) => view.guesses.get(guessKey(view, router));
 
+// The result, which the trace that is shown does not have.
+const resultAt = (view, router) => foundAt((view.whole ?? view.trace).steps[view.step], router, prefixInView(view));
+
 // The metric of a router that was guessed or shown, as the drawing has it; null while it is not.
 export function guessed(view, router) {
   const guess = guessOf(view, router);
   if (!guess?.isRight && !guess?.isShown) return null;
-  const found = foundAt(view.trace.steps[view.step], router, prefixInView(view));
+  const found = resultAt(view, router);
   return found === 'none' ? '–' : Number(found);
 }
 
@@ -19,7 +22,7 @@ export function guessed(view, router) {
 export function markGuess(view, router, text) {
   const metric = metricIn(text), had = guessOf(view, router);
   if (metric === null || had?.isRight || had?.isShown) return;
-  const isRight = metric === foundAt(view.trace.steps[view.step], router, prefixInView(view));
+  const isRight = metric === resultAt(view, router);
   view.guesses.set(guessKey(view, router), { text: metric, tries: (had?.tries ?? 0) + 1, isRight, isShown: false });
 }
 

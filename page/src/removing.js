@@ -46,7 +46,7 @@ function lineWithout(text, scope) {
   if (text.startsWith('#places ')) return placesWithout(text, scope);
   if (word === 'cold') scope.isBuilt = true;
   if (!scope.isBuilt && /^(router|iface|own)$/.test(word)) return partWithout(text, word, scope);
-  if (/^(cut|mend|down|up|costs)$/.test(word)) return scope.removed.includes(Number(words[0])) ? null : text;
+  if (/^(cut|mend|down|up|costs|link)$/.test(word)) return scope.removed.includes(Number(words[0])) ? null : text;
   const sent = scope.datagrams[namedIn(text)];
   if (sent && !scope.renamed(sent.router, sent.iface)) return null;
   return NAMES_AT[word] ? namedWithout(text, scope) : text;

@@ -1,11 +1,13 @@
 // What the page shows: its state, and the panes, which are drawn from it.
-import { named, readTrace } from './trace.js';
-import { layOut, linksApart, wiringOf } from './layout.js';
+import { minutesOf, nameOf, named, readTrace } from './trace.js';
+import { isDrawn, keptSpots, layOut, notDrawn, wiringOf } from './layout.js';
 import { placesOf } from './building.js';
 import { branchesOf } from './branching.js';
-import { captionsOf, checksOf, expectationsOf, plainLines, questionIn, withAnswerApart } from './lessons.js';
+import { captionsOf, checksOf, expectationsOf, isExercise, plainLines, toldInQuiz, withAnswerApart, withDrawnNames } from './lessons.js';
+import { equationOf, progressOf } from './exercises.js';
+import { quizzed, veiled } from './veiling.js';
 import { describe, hintOf, seconds } from './texts.js';
-import { askingText, hasAsking, stepBeside } from './asking.js';
+import { askingText, hasAsking } from './asking.js';
 import { html } from './markup.js';
 import { drawingOf } from './drawing.js';
 import { detailOf, eventOf, openAt } from './detail.js';
@@ -26,12 +28,12 @@ const SCRIPTS = new Map([...document.querySelectorAll('#own > div, #scripts > di
   [script.dataset.name, { text: plainLines(script.textContent), kind: script.dataset.kind ?? 'of this file', isLesson: 'lesson' in script.dataset }]));
 
 // What is shown: a script that was run with its trace, a step of it, that since which changes are marked, what was chosen,
-// and what was typed into fields. The script that was run last, `ran`, may have no network; then `stale` is true, and the
+// and what was typed into fields. Of the `whole` trace there is what may be told. The script that was run last, `ran`, may have no network; then `stale` is true, and the
 // last network shows. Of a script with a line `asking` both runs can be seen, each alone or beside each other, by `way`.
 const view = {
-  script: '', trace: readTrace(''), step: 0, since: -1, chosen: null, typed: {}, ran: null, refused: null, stale: false,
+  script: '', trace: readTrace(''), whole: readTrace(''), step: 0, since: -1, chosen: null, typed: {}, ran: null, refused: null, stale: false,
   wiring: null, spots: [], shifts: [], captions: [''], checks: [], eventsFrom: null, place: 'branch',
-  asking: null, way: 'with', isLarge: false, isQuiz: false, guesses: new Map(), tries: new Map(), isMatrix: null, filter: '', room: 1, isFromAll: false,
+  asking: null, way: 'with', versus: null, hasTimes: false, hasHops: false, isSending: false, isLarge: false, isQuiz: false, guesses: new Map(), hints: new Set(), isMatrix: null, filter: '', room: 1, isFromAll: false,
 };
 const current = () => view.trace.steps[view.step];
 
@@ -39,7 +41,7 @@ const current = () => view.trace.steps[view.step];
 // Of what was `added` all is played, from the step before it.
 function showRun(script, text, stepOf = () => view.step, isAdded = false) {
   const trace = readTrace(text, script), last = trace.steps.at(-1)?.record, hasNetwork = trace.ends.length > 0;
-  const refused = last?.record === 'refused' ? last : null, before = isAdded ? stepAsBefore(view.trace, trace) : -1, isBeside = view.way === 'beside';
+  const refused = last?.record === 'refused' ? last : null, before = isAdded ? stepAsBefore(view.whole, trace) : -1, isBeside = view.way === 'beside';
   Object.assign(view, { ran: script, refused, stale: !hasNetwork && view.wiring !== null });
   const rest = refused?.why.startsWith('expected') ? '. Nothing behind it was run.' : '';
   if (refused) say(`Line ${refused.line}: ${describe(refused, trace.names)}${hintOf(refused)}${rest}`, true);
@@ -49,6 +51,7 @@ function showRun(script, text, stepOf = () => view.step, isAdded = false) {
   if (isAdded && before >= 0 && step > before) playSpan(before, step);
   else go(step);
   if (isBeside && view.asking) showAsking('beside');
+  else if (view.versus) compareWith(view.versus.kind);
 }
 
 // The last step up to which two traces are the same.
@@ -59,26 +62,33 @@ function stepAsBefore({ steps: old }, { steps }) {
   return step - 1;
 }
 
-// Routers stay where they are while the network has the same links, or one link more or less.
+// Routers stay where they are while the network has a link or a router more or less.
 function showTrace(script, trace) {
   const had = view.trace, wired = view.wiring;
-  const checks = checksOf(trace, expectationsOf(script));
-  Object.assign(view, { script, trace, checks, captions: captionsOf(script), shifts: placesOf(script), eventsFrom: null });
+  const checks = checksOf(trace, expectationsOf(script), isExercise(script));
+  Object.assign(view, { script, whole: trace, trace: shownOf(trace, checks), checks, captions: captionsOf(script), shifts: placesOf(script), eventsFrom: null });
   view.wiring = trace.ends.length > 0 ? wiringOf(trace) : null;
   const isOffered = view.wiring && hasAsking(script) && !checks.some(({ isBlank }) => isBlank);
   Object.assign(view, { asking: isOffered ? { trace, checks, wiring: view.wiring, other: null } : null, way: 'with' });
-  const isNear = !view.isOther && wired && view.wiring && wired.count === view.wiring.count && wired.size === view.wiring.size && linksApart(had, trace) <= 1;
-  if (!isNear) view.spots = view.wiring ? layOut(view.wiring) : [];
+  const kept = !view.isOther && wired && view.wiring && view.spots.length > 0 ? keptSpots(view.spots, had, wired, trace, view.wiring) : null;
+  view.spots = kept ?? (view.wiring ? layOut(view.wiring) : []);
   view.isOther = false;
   if (!named(view.chosen, trace)) view.chosen = null;
+  fill('moments', html`${minutesOf(view.trace).map(({ step, minute }) => html`<option value="${step}" label="${minute} min"></option>`)}`);
+}
+
+// What the panes get of a trace: in a quiz no result, and of an exercise what comes before an open blank.
+function shownOf(trace, checks) {
+  const shown = veiled(trace, checks);
+  return view.isQuiz ? quizzed(shown) : shown;
 }
 
 // ---- Rendering ----
 // The focus stays on what had it, though a pane is drawn anew; and Tab comes to one thing of each pane, by `stops`.
-const PANES = ['drawing', 'tables', 'events'], stops = {};
+const PANES = ['drawing', 'timeline', 'tables', 'events'], stops = {};
 const itemsOf = pane => [...pane.querySelectorAll('button, input, [tabindex]')];
 function keepFocus(draw) {
-  const had = document.activeElement, pane = had?.closest('#drawing, #tables, #events, #detail, #quiz, #checks');
+  const had = document.activeElement, pane = had?.closest('#drawing, #timeline, #tables, #events, #detail, #quiz, #checks');
   const at = pane ? itemsOf(pane).indexOf(had) : -1;
   draw();
   for (const id of PANES) {
@@ -110,19 +120,23 @@ function render(flying = false) {
   const { steps } = view.trace, { record, now } = current() ?? {};
   document.body.classList.toggle('stale', view.stale);
   document.body.classList.toggle('chosen', view.chosen !== null);
-  byId('where').textContent = record ? `step ${view.step + 1} of ${steps.length}, at ${seconds(now)}` : '';
+  byId('where').textContent = record ? `step ${view.step + 1} of ${view.way === 'without' ? steps.length : view.whole.steps.length}, at ${seconds(now)}` : '';
   Object.assign(byId('slider'), { max: Math.max(0, steps.length - 1), value: view.step });
-  const happened = record ? `line ${record.line}${view.isQuiz ? '' : `, ${describe(record, view.trace.names, openAt(view, view.step))}`}` : '';
-  byId('slider').setAttribute('aria-valuetext', happened);
-  if (!view.span && byId('happened').textContent !== happened) byId('happened').textContent = happened;
+  const happened = record ? `line ${record.line}, ${describe(record, view.trace.names, openAt(view, view.step))}` : '';
+  byId('slider').setAttribute('aria-valuetext', record ? `${seconds(now)}, ${happened}` : '');
+  byId('slider').title = record ? `${seconds(now)} of ${seconds(steps.at(-1).now)}` : '';
+  if (!view.span) refill('happened', html`${happened}`);
   renderCaption();
   renderAsking();
   renderBranches();
+  renderVersions();
+  renderViews();
   keepFocus(() => {
     renderScript();
     renderEvents();
     renderChecks();
-    fill('detail', view.isQuiz ? html`` : html`${view.chosen ? html`<button data-act="letGo" title="Escape">close</button>` : ''}${detailOf(view)}`);
+    fill('detail', html`${view.chosen ? html`<button data-act="letGo" title="Escape">close</button>` : ''}${detailOf(view)}`);
+    renderTimeline();
     renderDrawing(flying);
     renderTables();
   });
@@ -133,9 +147,10 @@ function render(flying = false) {
 
 // The remark that is last before the line of the step; at the last step that at the end, too.
 function renderCaption() {
-  const { record } = current() ?? {}, isLast = view.step === view.trace.steps.length - 1;
+  const { record } = current() ?? {}, isLast = view.step === Math.max(view.trace.steps.length, view.way === 'without' ? 0 : view.whole.steps.length) - 1;
   const captions = [view.captions[record?.line], isLast && view.captions.at(-1)].filter(Boolean);
-  const told = [...new Set(captions)].map(caption => withAnswerApart(view.isQuiz ? questionIn(caption) : caption));
+  const name = router => nameOf(view.trace, router);
+  const told = [...new Set(captions)].map(caption => withAnswerApart(withDrawnNames(view.isQuiz ? toldInQuiz(caption) : caption, name)));
   refill('caption', html`${told.map(({ prose }) => prose && html`<span class="paragraph">${prose}</span> `)}`);
   refill('answer', html`${told.map(({ answer }) => answer && html`<b>Answer</b> <span>${answer[0].toUpperCase()}${answer.slice(1)}</span>`)}`);
 }
@@ -163,12 +178,17 @@ function renderAsking() {
 function renderChecks() {
   const { trace: { names }, checks } = view, here = view.isQuiz ? [] : checks.filter(({ step }) => step > view.since && step <= view.step);
   const name = router => names.get(router) ?? `R${router}`;
-  fill('checks', html`${here.map(({ line, router, prefix, wanted, found, isBlank, isMet }) => isBlank ? html`<span class="check blank choices">
+  fill('checks', html`${here.map(({ line, router, prefix, wanted, found, isBlank, isMet, step }) => isBlank ? html`<span class="check blank choices">
     <label>line ${line}: the metric of ${name(router)} for ${prefix} is <input name="blank-${line}" data-blank="${line}" size="5"
     autocomplete="off" value="${view.typed[`blank-${line}`]}"></label><button data-act="answer" data-line="${line}">check</button>
-    <span class="bad">${view.wrong?.line === line ? `✗ not ${view.wrong.text}` : ''}</span></span>`
+    <button data-act="hint" data-line="${line}">hint</button> ${notRight(line, wanted)}
+    ${view.hints.has(line) ? html`<span class="hint">${equationOf(view, { router, prefix, step })}</span>` : ''}</span>`
     : html`<span class="check ${isMet ? 'met' : 'unmet'}" title="line ${line}">${isMet ? '✓' : '✗'} ${name(router)}, ${prefix}: expected ${wanted},
-    found ${found}</span>`)}`);
+    found ${found}</span>`)}${view.isQuiz ? '' : progressOf(view)}`);
+}
+function notRight(line, wanted) {
+  const text = wanted === '?' ? view.wrong?.line === line && view.wrong.text : wanted;
+  return text ? html`<span class="bad">✗ not ${text}</span>` : '';
 }
 
 // Only the parts of a pane that are other than before are put in anew; of a table as long as before only such rows.
@@ -190,25 +210,22 @@ function replace(old, text) {
 
 function renderDrawing(flying) {
   drawIn(byId('drawing'), view, flying);
-  if (!byId('beside').hidden) drawIn(byId('beside'), besideOf(view), false);
-  byId('nothing').hidden = view.wiring !== null;
-}
-
-// The same moment of the run without asking.
-function besideOf({ asking: { trace, other, others }, step, since }) {
-  const [at, from] = [step, since].map(one => stepBeside(trace, other, one));
-  return { ...view, trace: other, wiring: others, step: at, since: Math.min(from, at - 1), checks: [], chosen: view.chosen?.startsWith('datagram') ? null : view.chosen };
+  if (!byId('beside').hidden) drawIn(byId('beside'), viewBeside(view, view.asking.trace, { trace: view.asking.other, wiring: view.asking.others }), false);
+  drawVersions();
+  sendPackets();
+  byId('nothing').hidden = isDrawn(view.trace);
+  if (!isDrawn(view.trace)) byId('nothing').textContent = notDrawn(view.trace);
 }
 
 function drawIn(place, view, flying) {
   const { clientWidth, clientHeight } = place, svg = place.querySelector('svg'), head = parseFloat(getComputedStyle(place).paddingTop);
-  const pane = { width: view.room * clientWidth, height: view.room * (clientHeight - head) }, isThere = view.wiring !== null;
+  const pane = { width: view.room * clientWidth, height: view.room * (clientHeight - head) }, isThere = view.wiring !== null && isDrawn(view.trace);
   const { width, height, zoom = 1, scale = 1, roomy, parts } = isThere ? drawingOf({ ...view, flying, pane }) : { ...pane, parts: [] };
-  const attributes = { width: width * zoom, height: height * zoom, viewBox: `0 0 ${width} ${height}`, class: roomy ? 'roomy' : '' };
+  const attributes = { width: isThere ? width * zoom : 0, height: isThere ? height * zoom : 0, viewBox: `0 0 ${width} ${height}`, class: roomy ? 'roomy' : '' };
   for (const [name, value] of Object.entries(attributes)) svg.setAttribute(name, value);
   view.pixels = zoom * scale;
   patch(svg.querySelector(':scope > g'), 'g', parts);
-  for (const mark of svg.querySelectorAll('[data-motion]')) mark.style = mark.dataset.motion;
+  for (const mark of svg.querySelectorAll('[data-motion]:not([data-motion=""])')) mark.style = mark.dataset.motion;
 }
 
 // From so many routers on the matrix stands first.

@@ -3,7 +3,7 @@ import { nameOf, named, senderAt } from './trace.js';
 import { leastCosts, tallyAll, walkOf } from './walks.js';
 import { UNREACHABLE, prefixKey } from './datagrams.js';
 import { filterOf } from './filtering.js';
-import { isAsked } from './lessons.js';
+import { isAsked } from './veiling.js';
 import { plural, seconds } from './texts.js';
 import { choice, classes, html } from './markup.js';
 
@@ -33,7 +33,7 @@ const COUNTED_DOWN = 300;
 
 // The table of each router, with what has changed since another step, as far as a filter has it; the same markup as before
 // where nothing of it has changed.
-export function tablesOf({ trace, step, since = step - 1, chosen, filter = '', checks = [] }) {
+export function tablesOf({ trace, step, since = step - 1, chosen, filter = '' }) {
   const state = trace.steps[step], { routers, record, least, now } = state, old = trace.steps[since]?.routers ?? routers;
   const route = named(chosen, trace), count = routers.reduce((sum, { table }) => sum + table.size, 0);
   const clock = count <= COUNTED_DOWN ? now : null, wants = filterOf(trace, filter);
@@ -41,10 +41,9 @@ export function tablesOf({ trace, step, since = step - 1, chosen, filter = '', c
     if (!wants.hasRouter(router)) return [];
     const mine = route?.kind === 'route' && route.router === router ? route.prefix : null;
     const moved = record.router === router, before = old[router].table, name = nameOf(trace, router);
-    const asked = checks.length === 0 ? [] : [...table.keys()].filter(prefix => isAsked({ checks, step }, router, prefix));
-    const wanted = [least, before, moved, mine, name, clock, filter, asked.join()], kept = drawnTables.get(table);
+    const wanted = [least, before, moved, mine, name, clock, filter], kept = drawnTables.get(table);
     if (kept?.wanted.every((part, index) => part === wanted[index])) return kept.markup;
-    const markup = tableOf({ trace, state, before, moved, mine, clock, wants, asked }, router);
+    const markup = tableOf({ trace, state, step, since, before, moved, mine, clock, wants }, router);
     drawnTables.set(table, { wanted, markup });
     return markup.text ? [markup] : [];
   });
@@ -54,6 +53,9 @@ const NONE = html`<p class="empty">No router and no prefix is named so.</p>`;
 
 const inOrder = entries => entries.map(entry => [prefixKey(entry.route.prefix), entry])
   .sort(([a], [b]) => a < b ? -1 : 1).map(([, entry]) => entry);
+// A long prefix is cut in the middle: prefixes differ at their ends.
+const MOST_LETTERS_SHOWN = 20;
+export const shortened = prefix => prefix.length <= MOST_LETTERS_SHOWN ? prefix : `${prefix.slice(0, 8)}…${prefix.slice(9 - MOST_LETTERS_SHOWN)}`;
 const HEADS = ['prefix', 'metric', 'shortest', 'next hop', 'tag', 'expires'];
 function tableOf(context, router) {
   const { trace, state, before, moved, wants } = context, { quiet, table } = state.routers[router], now = moved ? 'now' : '';
@@ -65,35 +67,48 @@ function tableOf(context, router) {
     <tbody>${rows.map(entry => rowOf(context, router, entry))}</tbody></table>`;
 }
 
-function rowOf({ trace, state, before, mine, clock, asked }, router, entry) {
-  const { prefix, metric, tag, until, gateway } = entry.route, text = `route ${router} ${prefix}`, had = before.get(prefix);
-  const isOpen = asked.includes(prefix), gone = !state.routers[router].table.has(prefix), dying = metric >= UNREACHABLE && !isOpen;
+function rowOf(context, router, entry) {
+  const { trace, state, before, mine, clock } = context;
+  const { prefix, metric, tag, until, gateway, isVeiled: isOpen } = entry.route, text = `route ${router} ${prefix}`, had = before.get(prefix);
+  const gone = !state.routers[router].table.has(prefix), dying = metric >= UNREACHABLE && !isOpen;
   const least = leastCosts(trace, state, prefix)[router], label = `${prefix} at ${nameOf(trace, router)}: ${
     isOpen ? 'a blank asks for it' : `why metric ${metric}?`}`;
   const is = { gone, new: !gone && differs(entry, had), dying, chosen: mine === prefix };
-  const was = is.new && had && had.route.metric !== metric && !isOpen ? had.route.metric : '';
+  const was = is.new && had && !isOpen ? metricsBetween(context, router, prefix, metric) : '';
   return html`<tr class="${classes(...Object.keys(is).filter(name => is[name]))}" data-choose="${text}"
     data-router="${router}" data-prefix="${prefix}">
-    <td title="${prefix}"><button class="link" ${choice(text, label, mine === prefix && text)}>${prefix}</button></td>
+    <td title="${prefix}"><button class="link" ${choice(text, label, mine === prefix && text)}>${shortened(prefix)}</button></td>
     <td class="metric" data-was="${was}">${isOpen ? '?' : metric}${isOpen || walkOf(trace, router, entry).isBacked ? ''
       : html`<b class="bad" title="no path has this cost">!</b>`}</td>
     <td class="faint">${isOpen ? '?' : least < UNREACHABLE ? least : 'none'}</td>
-    <td title="${exactly(gateway)}">${gateway ? wayOf(trace, gateway) : 'own'}</td>
+    <td title="${isOpen ? '' : exactly(gateway)}">${isOpen ? '?' : gateway ? wayOf(trace, gateway) : 'own'}</td>
     <td>${tag}</td><td class="${dying ? '' : 'faint'}">${gone || isOpen ? '' : untilText(until, dying, clock)}</td></tr>`;
+}
+
+// The metrics that a route had since the step that was shown before, each where it came, but for that of now; the first and the last.
+const MOST_BETWEEN = 4;
+function metricsBetween({ trace, step, since }, router, prefix, metric) {
+  const held = trace.steps.slice(Math.max(0, since), step + 1).map(({ routers }) => routers[router].table.get(prefix)?.route.metric ?? '·');
+  const runs = held.filter((one, at) => one !== held[at - 1]).slice(0, held.at(-1) === metric ? -1 : undefined);
+  return runs.length > MOST_BETWEEN ? [runs[0], '…', ...runs.slice(1 - MOST_BETWEEN)].join('→') : runs.join('→');
 }
 
 // When a route expires, or at infinity is deleted: how long it takes, or where that is too much to keep up, the second. Past that
 // it waits for the router's timer, which runs no more where the router is down.
+// Seconds with a tenth, where they are not whole.
+const shortly = milliseconds => Math.max(0.1, Number((milliseconds / 1000).toFixed(1)));
 function untilText(until, dying, clock) {
   if (until === null) return '';
   const title = `${dying ? 'deleted' : 'expires'} at ${until / 1000} s`;
   if (clock !== null && until <= clock) return html`<span title="${title}, by the router's timer">${dying ? 'to be deleted' : 'has run out'}</span>`;
-  const when = clock === null ? `at ${Math.ceil(until / 1000)} s` : `in ${Math.ceil((until - clock) / 1000)} s`;
+  const when = clock === null ? `at ${shortly(until)} s` : `in ${shortly(until - clock)} s`;
   return html`<span title="${title}">${dying ? 'deleted ' : ''}${when}</span>`;
 }
 
 const partsOf = ({ route } = { route: {} }) => JSON.stringify([route.metric, route.tag, route.gateway]);
-export const differs = (entry, before) => entry !== before && partsOf(entry) !== partsOf(before);
+// What is not told is not seen to change.
+export const differs = (entry, before) =>
+  entry !== before && !entry?.route.isVeiled && !before?.route.isVeiled && partsOf(entry) !== partsOf(before);
 const wayOf = (trace, { iface, from, next_hop }) =>
   `${senderAt(trace, from)}, if ${iface}${next_hop === from ? '' : `, to ${next_hop}`}`;
 export const exactly = gateway =>
@@ -111,7 +126,7 @@ export function hasChanged({ trace, step, since }, router, prefix) {
 const printedRoute = (router, { prefix, metric, tag, gateway }) =>
   `${router} ${prefix} metric ${metric} tag ${tag} ${exactly(gateway)}\n`;
 export const printed = ({ routers }) => routers.flatMap(({ table }, router) =>
-  inOrder([...table.values()]).map(({ route }) => printedRoute(router, route))).join('');
+  inOrder([...table.values()]).filter(({ route }) => !route.isVeiled).map(({ route }) => printedRoute(router, route))).join('');
 
 // What two runs end with, where it is not the same.
 export function comparisonOf(one, other, here, there) {

@@ -4,7 +4,7 @@ export const seconds = milliseconds => `${(milliseconds / 1000).toFixed(3)} s`;
 export const plural = (count, noun) => `${count} ${noun}${count === 1 ? '' : 's'}`;
 
 // What a refusal means, by its name.
-const REASONS = new Map(Object.entries({
+export const REASONS = new Map(Object.entries({
   Short: 'it has fewer than 4 bytes', TooLong: 'it has more than 65,524 bytes',
   Ragged: 'it holds no whole number of entries', BadCommand: 'its command is neither 1 nor 2',
   BadVersion: 'its version is not 1', NotZero: 'its third or fourth byte is not 0',
@@ -15,7 +15,7 @@ const REASONS = new Map(Object.entries({
   BadPrefix: 'its prefix is multicast or link-local', BadMetric: 'its metric is not 1 to 16',
   TableFull: 'the table holds as many routes as it may', NoMemory: 'memory was refused',
   OutOfMemory: 'memory was refused', BadLine: 'the line is malformed or out of place',
-  TooManyRouters: 'a network has at most 64 routers', AddressSharedInNetwork: 'two interfaces have one address',
+  TooManyRouters: 'a network has at most 4,096 routers', AddressSharedInNetwork: 'two interfaces have one address',
   NoSuchRouter: 'there is no such router', NoSuchInterface: 'the router has no such interface',
   NoSuchDatagram: 'no such datagram was sent', NoSuchLink: 'there is no such link',
   DatagramLost: 'an earlier line says that it is lost',
@@ -48,7 +48,10 @@ export const LINES = [
   ['rounds K NOW GAP', 'K rounds, at NOW and each GAP later'],
   ['phases K SEED',
     'K minutes, in each of which every regular update comes; the rest is chance. Says which last changed a table'],
-  ['cut LINK', 'nothing crosses the link in tell, hear and rounds'],
+  ['run UNTIL [SEED]', 'time passes until then: each timer runs when it is due, and what is sent comes when its link has carried it'],
+  ['link LINK DELAY [LOSS]', 'in a run the link takes so many milliseconds, and loses LOSS of a hundred datagrams'],
+  ['counts', 'what was sent until now is counted, and when a route changed last'],
+  ['cut LINK', 'nothing crosses the link in tell, hear, rounds and runs'],
   ['mend LINK', 'all crosses it again'],
   ['down LINK NOW', 'the link goes down: it is cut, and its routers lose what they learned there'],
   ['up LINK NOW', 'it comes up: it is mended, and its routers ask their neighbors'],
@@ -105,15 +108,17 @@ export function describe(record, names = new Map(), isOpen = () => false) {
   const { record: kind, why, routers, router, event, sent, changes, prints, datagram, rounds, phases, last, thing, does } = record;
   const name = number => names.get(number) ?? `R${number}`, asked = () => plural(sent.length, 'Request');
   if (kind === 'start') return `${plural(routers.length, 'router')} start${routers.length === 1 ? 's' : ''}, ${asked()} sent`;
-  if (kind === 'refused' && why.startsWith('expected')) return why.replace(/^expected (\d+)/, (_, number) => `expected ${name(Number(number))}`);
+  if (kind === 'refused' && why.startsWith('expected')) return why.replace(/^expected (path )?(\d+)/, (_, path = '', number) => `expected ${path}${name(Number(number))}`);
   if (kind === 'refused') return `refused: ${reasonIn(why)}`;
   if (kind === 'outage') return thing?.startsWith('router ') ? `${name(Number(thing.slice(7)))} ${does}` : `${thing ?? ''} ${does}`.trim();
   if (kind === 'lost') return `datagram ${datagram} is lost`;
-  const ended = last === null ? 'no table changed' : `the last change in ${kind === 'rounds' ? 'round' : 'phase'} ${last + 1}`;
-  if (kind === 'rounds') return `${plural(rounds, 'round')}, ${ended}`;
-  if (kind === 'phases') return `${plural(phases, 'phase')}, ${ended}`;
+  const ended = last === undefined ? '' : last === null ? ', no table changed' : `, the last change in ${kind === 'rounds' ? 'round' : 'phase'} ${last + 1}`;
+  if (kind === 'rounds') return `${plural(rounds, 'round')}${ended}`;
+  if (kind === 'phases') return `${plural(phases, 'phase')}${ended}`;
   if (kind === 'horizon') return prints[0].replace(/^\d+/, number => `R${number}`);
   if (kind === 'asks') return `${name(router)} asks its neighbors: ${whyAsks(record, isOpen)}`;
+  if (kind === 'run') return `a run until ${seconds(record.until)}, made by chance of ${record.seed}`;
+  if (kind === 'counts') return `until now ${plural(record.datagrams, 'datagram')}, ${plural(record.bytes, 'byte')}; ${record.last === null ? 'no route changed' : `a route changed last at ${seconds(record.last)}`}`;
   if (kind !== 'event') return `${kind}: ${plural(prints.length, 'line')}`;
   const becomes = ({ change, prefix, metric }) => isOpen(prefix) ? 'changes' : change === 'add' ? `at ${metric}` : LEAVES[event.kind] ?? 'is unreachable';
   const one = changes.filter(({ prefix }) => prefix !== event.prefix).map(change => `, ${change.prefix} ${becomes(change)}`);

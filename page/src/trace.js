@@ -7,7 +7,7 @@ import { routeFor, targetIn } from './packets.js';
 // moment, how much `earlier` it is than what came before it, what is out (`link N` that is cut, `router R` that is silent, each
 // with the line that says so), and `least`, kept least costs.
 export function readTrace(text, script = '') {
-  const trace = { steps: [], datagrams: [], links: new Map(), ends: [], routerAt: new Map(), names: namesOf(script) };
+  const trace = { steps: [], datagrams: [], links: new Map(), ends: [], routerAt: new Map(), names: namesOf(script), latest: [], kept: null };
   const lines = script.split('\n'), isForged = ({ line }) => lines[line - 1]?.trim().startsWith('liar');
   const records = text.split('\n').filter(Boolean).map(line => JSON.parse(line)), outages = outagesIn(lines, trace.names);
   for (const record of withOutages(records, outages)) addRecord(trace, record, isForged);
@@ -28,10 +28,33 @@ function addRecord(trace, record, isForged) {
   for (const sent of record.sent ?? []) addDatagram(trace, sent, step, record);
   if (record.event?.kind === 'liar' && !isForged(record)) addDatagramOf(trace, record);
   if (record.event?.datagram !== undefined) addArrival(trace, record, step);
-  const routers = routersAfter(trace.steps.at(-1)?.routers ?? [], record, step);
-  const now = Math.max(0, ...routers.map(router => router.timers.last)), back = (trace.steps.at(-1)?.now ?? 0) - record.now;
+  const routers = routersAfter(trace.latest, record, step), last = trace.steps.at(-1)?.now ?? 0, back = last - record.now;
+  const now = routers === trace.latest ? last : routers.reduce((most, { timers }) => Math.max(most, timers.last), 0);
   const earlier = record.event && back > 0 ? `${back / 1000} s before what came last` : null;
-  trace.steps.push({ record, routers, now, earlier });
+  trace.latest = routers;
+  trace.steps.push(routers.length > MANY_KEPT ? slimStep({ record, now, earlier }, trace) : { record, routers, now, earlier });
+}
+
+// A step of a large network keeps the router that it changed, and each so many steps there are all of them.
+const MANY_KEPT = 256, BETWEEN = 64;
+function slimStep(step, trace) {
+  const { record: { record, router } } = step, { latest } = trace, isFull = !trace.kept || trace.kept.log.length >= BETWEEN;
+  if (isFull || record === 'start') trace.kept = { base: latest, log: [] };
+  else if (record === 'event') trace.kept.log.push([router, latest[router]]);
+  const { base, log } = trace.kept, count = log.length;
+  return Object.defineProperty(step, 'routers', { enumerable: true, get: () => routersOf(base, log, count) });
+}
+
+// Those that were made last are kept: the page asks for the same steps again and again.
+const MOST_MADE = 8, made = [];
+function routersOf(base, log, count) {
+  const had = made.find(one => one.log === log && one.count === count);
+  if (had) return had.routers;
+  const routers = base.slice();
+  for (const [router, state] of log.slice(0, count)) routers[router] = state;
+  made.unshift({ log, count, routers });
+  made.length = Math.min(made.length, MOST_MADE);
+  return routers;
 }
 
 // An end is an interface on its link, with what it sent.
@@ -57,11 +80,12 @@ function addDatagram(trace, sent, step, { asks = null, event }) {
   end.sent.push(trace.datagrams.at(-1));
 }
 
-// What a router with another horizon sent comes in place of its newest datagram that has not come there.
+// What a router with another horizon sent comes in place of its newest datagram that has not come there, which has it as `came`.
 function addDatagramOf(trace, { router, event }) {
   const to = trace.ends[router][event.iface], from = trace.links.get(to.link).find(({ addr }) => addr === event.source);
   const datagram = from?.sent.findLast(one => !hasCome(one, to, Infinity));
   if (datagram) Object.assign(event, { datagram: datagram.datagram, sender: from });
+  if (datagram) datagram.came = event.bytes;
 }
 
 function addArrival(trace, { router, event }, step) {
@@ -172,4 +196,18 @@ export function nextStop({ steps }, captions, from, by, direction) {
   let step = from + direction;
   while (steps[step] && !isStop(step)) step += direction;
   return Math.max(0, Math.min(steps.length - 1, step));
+}
+
+// The first step of each full minute, where marks stand beside the slider; of a long run fewer of them.
+const MOST_MARKS = 20;
+export function minutesOf({ steps }) {
+  const whole = Math.floor((steps.at(-1)?.now ?? 0) / 60000), every = Math.ceil(whole / MOST_MARKS) || 1, marks = [];
+  let next = every;
+  steps.forEach(({ now }, step) => {
+    if (now < 60000 * next) return;
+    const minute = Math.floor(now / 60000);
+    marks.push({ step, minute });
+    next = minute - minute % every + every;
+  });
+  return marks;
 }

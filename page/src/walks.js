@@ -65,12 +65,12 @@ export function withoutRings(trace, routers) {
 export const wayText = (trace, routers) => routers.map(router => nameOf(trace, router)).join(' → ');
 
 // What each row of the table of adoption makes of an offer, in words.
-const OUTCOMES = {
+export const OUTCOMES = {
   Nothing: 'unreachable: ignored', Added: 'new prefix: installed', Owned: 'its own prefix: ignored',
   GivenUp: 'withdrawn by its next hop: unreachable', Refreshed: 'from its next hop: timer restarted',
   Cheaper: 'lower cost: installed', Older: 'equal cost, and half of the timeout has passed: installed',
   Dearer: 'higher cost: ignored', Young: 'equal cost, and half of the timeout has not passed: ignored',
-  Revived: 'was unreachable: installed', Gone: 'already unreachable',
+  Revived: 'was unreachable: installed', Gone: 'already unreachable', Hidden: '?',
 };
 
 // A next hop is believed whatever it offers, also what is worse than before: that makes counting possible.
@@ -85,7 +85,7 @@ export function offersOf({ steps, datagrams }, step) {
   if (offers.length === 0) return [];
   const entries = entriesOf(datagrams[event.datagram].bytes), { cost } = routers[router].interfaces[event.iface];
   return offers.map(({ entry, prefix, metric, why }) => ({
-    prefix, told: entries[entry].metric, cost, offered: metric,
+    prefix, told: entries[entry].metric || '?', cost, offered: metric,
     outcome: outcomeOf(why, metric, routeAt(steps[step - 1], router, prefix)?.metric),
     before: routeAt(steps[step - 1], router, prefix)?.metric, after: routeAt(steps[step], router, prefix)?.metric,
   }));
