@@ -1,4 +1,26 @@
 //! Scripts of a laboratory: whole networks of routers, and what happens in them, as lines of text.
+//!
+//! The way of a line:
+//!
+//! ```text
+//! text --forms--> Line --Session::obey--> Course::act --Lab::step_watched--> Watch: what happened, what was noticed
+//!      \--no form fits--> BadLine --hints--> what it should have been
+//! ```
+//!
+//! | what | where |
+//! |---|---|
+//! | which words a line may have, and what they stand for | forms.rt, line.rt, context.rt |
+//! | routers that are listed, until they start | listing.rt, script.rt |
+//! | what a line makes happen: one event, or a plan of many, or time that passes by itself | course.rt, plan.rt, moving.rt, passing.rt |
+//! | routers that ask for tables, or advertise by another rule | asking.rt, pace.rt, horizon.rt |
+//! | what is expected, and whether it is so | expecting.rt, healing.rt, exercise.rt, marking.rt |
+//! | what is counted | counting.rt, counted.rt |
+//! | what is printed | printer.rt |
+//! | why a script ends before its last line | stop.rt, hints.rt |
+//!
+//! A network that is lawful lives in a `Lab` of `ripng_world`, which keeps all that is proved of networks. One forged Response, or one
+//! router that is no router of RIPng, makes it a `Running`, of which only single steps are promised: `Site` in course.rt has both.
+//! `specs/Doing` says what each form of a line means as events, and `specs/Scripts` what a whole script then is.
 #![tactic(auto)]
 
 mod asking;

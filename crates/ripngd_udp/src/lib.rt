@@ -8,6 +8,17 @@
 //! `send` --pace open?--> socket
 //!        \--closed-----> send queue (4,096, of them 1,200 answers) --`recv` or `finish`, once the pause is over--> socket
 //! ```
+//!
+//! Three rules shape the code:
+//!
+//! - **A socket is emptied first.** It holds some ninety datagrams of a whole table, and what comes then is lost unseen. So each turn
+//!   takes all that is there into the queues, before the router has any of it.
+//! - **To be woken costs more than to read.** So a turn waits 12 ms after a datagram for those that follow it, and a neighbor sends at a
+//!   pace that leaves room for them: 64 datagrams, then a pause.
+//! - **Nobody slows the neighbor of another link.** Each interface has queues of its own, and they are served in turn.
+//!
+//! Begin with `recv` of `Link` in udp.rt and `send_waiting` in sockets.rt; then endpoint.rt, which has the sockets and the queues of one
+//! interface. What is lost all the same is counted in `counts` of udp.rt.
 #![tactic(auto)]
 
 mod clock;

@@ -24,6 +24,27 @@
 //! unless a better offer of another gateway replaces it. A `Dying` one is advertised with metric 16 until garbage collection
 //! deletes it.
 //!
+//! Two moments decide what a `tick` sends. It sends one update at most (RFC 2080, sections 2.3 and 2.5.1):
+//!
+//! | `regular` is reached | `hold` is reached and a route has changed | what is sent | what then changes |
+//! |---|---|---|---|
+//! | yes | yes or no | all routes | `regular`: 15 to 45 s from now |
+//! | no | yes | the routes that have changed | `hold`: 1 to 5 s from now |
+//! | no | no | nothing | neither |
+//!
+//! After an update no route counts as changed. Of the other calls none moves these moments but `restart`. What each call changes:
+//!
+//! | call | configuration | table | `last` | `regular`, `hold` |
+//! |---|---|---|---|---|
+//! | `arrive` | | what is offered | now | |
+//! | `tick` | | what has timed out | now | by the table above |
+//! | `reconfigure` | a cost, or a prefix that is owned | its routes | now | |
+//! | `link_down` | | what was learned there | now | |
+//! | `link_up`, `shutdown` | | | now | |
+//! | `restart` | | what is owned, and nothing else | now | now, both |
+//!
+//! Here `now` is the moment of the call, or `last` if that is later; at a `restart` it is the moment of the call.
+//!
 //! `Moves` in specs/Machine.antt judges every call: which answers and which states after it are allowed. It stands on `fault`
 //! (specs/Faults.antt), the rules of adoption (specs/Adoption.antt), `aged` (specs/Ageing.antt) and the messages of
 //! specs/Output.antt. Begin with `arrive` in src/router.rt, then src/faults.rt, hear.rt and adopt.rt; then `tick`, age.rt and
