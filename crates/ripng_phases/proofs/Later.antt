@@ -14,6 +14,7 @@ use Rattle.ripng_world.specs.World.{World, Event, Deliver, Stranger, Tick, Resta
 use Rattle.ripng_world.proofs.RoundNeighbors.{state_after, set_here}
 use Rattle.ripng_phases.specs.Phases.{Step, IsOrdinary, Takes, IsPhase, Before, PhasesAfter, before_next, reached}
 use Rattle.ripng_phases.proofs.Runs.{takes_first, takes_rest}
+use Rattle.router_core.specs.Timers.{next_hold, next_regular}
 
 pub arrived_later : (old new : State) (now : ℕ) (x : Received) (answer : Answer) (o : Option Fault) (b : Bool)
     → MatchOption o (MatchBool b (Hears old now x answer new) (Replies old now x answer new)) (λ why. Refuses old now why answer new) → old.regular ≡ new.regular
@@ -26,8 +27,8 @@ pub due_later : (old : State) (now word : ℕ) → old.regular ≤ now → (old.
 due_later old now word due = by (is_regular_due old now) refl
   where
     by : (b : Bool) → is_regular_due old now ≡ b
-        → let new = cond b (record old { table = unmarked (aged_table now old.table); last = now; regular = now + 15_000 + word % 30_001 })
-        (cond (is_triggered_due old now) (record old { table = unmarked (aged_table now old.table); last = now; hold = now + 1_000 + word % 4_001 }) (record old { table = aged_table now old.table; last = now })) in
+        → let new = cond b (record old { table = unmarked (aged_table now old.table); last = now; regular = next_regular now word })
+        (cond (is_triggered_due old now) (record old { table = unmarked (aged_table now old.table); last = now; hold = next_hold now word }) (record old { table = aged_table now old.table; last = now })) in
         (old.regular + 15_000 ≤ new.regular) × (old.regular ≤ new.last)
     by true is = (omega arith, due)
     by false is = absurd (grind (arith, nat_tests, is, due))
@@ -37,8 +38,8 @@ pub ticked_later : (old : State) (now word : ℕ) → (old.regular ≤ (ticked o
 ticked_later old now word = by (is_regular_due old now) (is_triggered_due old now) refl
   where
     by : (b c : Bool) → is_regular_due old now ≡ b
-        → let new = cond b (record old { table = unmarked (aged_table now old.table); last = now; regular = now + 15_000 + word % 30_001 })
-        (cond c (record old { table = unmarked (aged_table now old.table); last = now; hold = now + 1_000 + word % 4_001 }) (record old { table = aged_table now old.table; last = now })) in
+        → let new = cond b (record old { table = unmarked (aged_table now old.table); last = now; regular = next_regular now word })
+        (cond c (record old { table = unmarked (aged_table now old.table); last = now; hold = next_hold now word }) (record old { table = aged_table now old.table; last = now })) in
         (old.regular ≤ new.regular) × (now ≡ new.last)
     by true c is = (let due : old.regular ≤ now = grind (arith, nat_tests, is) in omega arith, refl)
     by false true is = (le_refl old.regular, refl)

@@ -15,6 +15,7 @@ use Rattle.ripng_world.specs.World.{World, Event, Deliver, Stranger, Tick, Resta
 use Rattle.ripng_world.specs.declared.event.Sent.{Sent}
 use Rattle.ripng_world.proofs.RoundNeighbors.{state_before}
 use Rattle.ripng_phases.specs.Phases.{IsOrdinary}
+use Rattle.router_core.specs.Timers.{next_hold, next_regular}
 
 -- its table stays, while its time may go on
 pub record Waits (e : Event) (router : ℕ) (s t : State) : Type 0 where
@@ -51,8 +52,8 @@ abbrev pub CameFrom : Network → World → Event → Answer → ℕ → State �
 CameFrom net w e answer router t = (s : State) × (slice_get w.states router ≡ Some s) × IsStep net w e answer router s t
 
 pub ages : (e : Event) (router : ℕ) (s : State) (n word : ℕ) (b c : Bool) → router_of e ≡ router → n ≡ max s.last (moment_of e)
-    → Ages e router s (cond b (record s { table = unmarked (aged_table n s.table); last = n; regular = n + 15_000 + word % 30_001 })
-    (cond c (record s { table = unmarked (aged_table n s.table); last = n; hold = n + 1_000 + word % 4_001 }) (record s { table = aged_table n s.table; last = n })))
+    → Ages e router s (cond b (record s { table = unmarked (aged_table n s.table); last = n; regular = next_regular n word })
+    (cond c (record s { table = unmarked (aged_table n s.table); last = n; hold = next_hold n word }) (record s { table = aged_table n s.table; last = n })))
 ages e router s n word b c here last = by b c
   where
     aged_at : (p : Prefix6) → map_of.get (aged_table n s.table) p ≡ option_and_then (aged n) (map_of.get s.table p)
@@ -61,8 +62,8 @@ ages e router s n word b c here last = by b c
     unmarked_at : (p : Prefix6) → map_of.get (unmarked (aged_table n s.table)) p ≡ option_and_then without_mark (option_and_then (aged n) (map_of.get s.table p))
     unmarked_at p = get-map_values without_mark (aged_table n s.table) p ∙ ap (option_and_then without_mark) (aged_at p)
 
-    by : (b c : Bool) → Ages e router s (cond b (record s { table = unmarked (aged_table n s.table); last = n; regular = n + 15_000 + word % 30_001 })
-        (cond c (record s { table = unmarked (aged_table n s.table); last = n; hold = n + 1_000 + word % 4_001 }) (record s { table = aged_table n s.table; last = n })))
+    by : (b c : Bool) → Ages e router s (cond b (record s { table = unmarked (aged_table n s.table); last = n; regular = next_regular n word })
+        (cond c (record s { table = unmarked (aged_table n s.table); last = n; hold = next_hold n word }) (record s { table = aged_table n s.table; last = n })))
     by true c = record { here = here; config = refl; last = last; row = λ p. inr (unmarked_at p) }
     by false true = record { here = here; config = refl; last = last; row = λ p. inr (unmarked_at p) }
     by false false = record { here = here; config = refl; last = last; row = λ p. inl (aged_at p) }

@@ -25,6 +25,7 @@ use Rattle.ripng_world.proofs.RoundNeighbors.{set_here}
 use Rattle.ripng_phases.specs.Phases.{IsOrdinary}
 use Rattle.ripng_phases.proofs.Orderly.{IsOrderly}
 use Rattle.ripng_phases.proofs.Telling.{IsClean, IsTrueDatagram, asks_sound, replies_sound, tick_sound, unmarked_true}
+use Rattle.router_core.specs.Timers.{next_hold, next_regular}
 
 -- the datagram tells what its sender holds
 abbrev pub IsToldTruly : World → Sent → Type 0
@@ -48,8 +49,8 @@ mover_tells w w' mover what answer m all = (
 
 -- a tick, with marks or without
 pub ticked_true : (old : State) (n word : ℕ) (sends : List Outgoing) → AreTrue old.config (aged_table n old.table) sends → (b c : Bool)
-    → let new = cond b (record old { table = unmarked (aged_table n old.table); last = n; regular = n + 15_000 + word % 30_001 })
-    (cond c (record old { table = unmarked (aged_table n old.table); last = n; hold = n + 1_000 + word % 4_001 }) (record old { table = aged_table n old.table; last = n })) in
+    → let new = cond b (record old { table = unmarked (aged_table n old.table); last = n; regular = next_regular n word })
+    (cond c (record old { table = unmarked (aged_table n old.table); last = n; hold = next_hold n word }) (record old { table = aged_table n old.table; last = n })) in
     AreTrue new.config new.table sends
 ticked_true old n word sends all true c = each_weaker (λ o. IsTrueDatagram old.config (unmarked (aged_table n old.table)) o.iface o.bytes) (λ o. IsTrueDatagram old.config (aged_table n old.table) o.iface o.bytes) (λ o t. unmarked_true old.config (aged_table n old.table) o.iface o.bytes t) sends all
 ticked_true old n word sends all false true = each_weaker (λ o. IsTrueDatagram old.config (unmarked (aged_table n old.table)) o.iface o.bytes) (λ o. IsTrueDatagram old.config (aged_table n old.table) o.iface o.bytes) (λ o t. unmarked_true old.config (aged_table n old.table) o.iface o.bytes t) sends all

@@ -40,6 +40,7 @@ use Rattle.ripng_world.proofs.RoundTicks.{spelled_at}
 use Rattle.ripng_world.proofs.Improving.{RouteAt}
 use Rattle.ripng_world.proofs.HealPlain.{IsPlainRow, IsTicked, Tells}
 use Rattle.ripng_world.proofs.HealHearing.{AreFew, IsToldLine}
+use Rattle.router_core.specs.Timers.{next_hold, next_regular}
 
 module _ (net : Network) (usable : IsUsable net) (noisy : IsNeverQuiet net) (known : Prefix6 → Type 0) (fits : AreFew net known) (mid : World) where
   pub record IsPlain (router : ℕ) (s : State) : Type 0 where
@@ -77,7 +78,7 @@ module _ (net : Network) (usable : IsUsable net) (noisy : IsNeverQuiet net) (kno
 
   module _ (router : ℕ) (s : State) (t : IsPlain router s) (n word : ℕ) where
     abbrev ticked_now : State
-    ticked_now = record s { table = unmarked (aged_table n s.table); last = n; regular = n + 15_000 + word % 30_001 }
+    ticked_now = record s { table = unmarked (aged_table n s.table); last = n; regular = next_regular n word }
 
     table_now : (p : Prefix6) → map_of.get (unmarked (aged_table n s.table)) p ≡ option_and_then without_mark (map_of.get (aged_table n s.table) p)
     table_now p = get-map_values without_mark (aged_table n s.table) p
@@ -232,8 +233,8 @@ module _ (net : Network) (usable : IsUsable net) (noisy : IsNeverQuiet net) (kno
     new_is =
         let n : ℕ = max m.old.last now in
         m.moves.state
-        ∙ ap (λ b. cond b (record m.old { table = unmarked (aged_table n m.old.table); last = n; regular = n + 15_000 + word % 30_001 })
-        (cond (is_triggered_due m.old n) (record m.old { table = unmarked (aged_table n m.old.table); last = n; hold = n + 1_000 + word % 4_001 }) (record m.old { table = aged_table n m.old.table; last = n }))) is_due
+        ∙ ap (λ b. cond b (record m.old { table = unmarked (aged_table n m.old.table); last = n; regular = next_regular n word })
+        (cond (is_triggered_due m.old n) (record m.old { table = unmarked (aged_table n m.old.table); last = n; hold = next_hold n word }) (record m.old { table = aged_table n m.old.table; last = n }))) is_due
 
     messages_are : tick_messages m.old (max m.old.last now) ≡ update_messages m.old.config every_route (aged_table (max m.old.last now) m.old.table)
     messages_are =

@@ -32,6 +32,7 @@ use Rattle.ripng_world.proofs.Among.{in_filter, to_filter}
 use Rattle.ripng_world.proofs.Members.{At, at_left, at_right, split_at}
 use Rattle.ripng_world.proofs.NetworkNow.{AreLawful, IsLawfulChange, set_get}
 use Rattle.ripng_world.proofs.Reached.{IsKnown, IsReached, IsReachedBy, IsReachedRow, AreRows, HasOwned, later_row, own_row, aged_rows, aged_owned, unmarked_rows, unmarked_owned}
+use Rattle.router_core.specs.Timers.{next_hold, next_regular}
 
 -- ---- changes
 
@@ -239,10 +240,10 @@ module _ (net : Network) (is_net : IsNetwork net) where
       let owned = aged_owned past old.config now old.table good.owned in
       let clean = unmarked_rows past old.config now (aged_table now old.table) rows in
       let clean_owned = unmarked_owned past old.config (aged_table now old.table) owned in
-      elim (is_regular_due old now) as (λ b. IsReached past (cond b (record old { table = unmarked (aged_table now old.table); last = now; regular = now + 15_000 + word % 30_001 })
-      (cond (is_triggered_due old now) (record old { table = unmarked (aged_table now old.table); last = now; hold = now + 1_000 + word % 4_001 }) (record old { table = aged_table now old.table; last = now })))) [
+      elim (is_regular_due old now) as (λ b. IsReached past (cond b (record old { table = unmarked (aged_table now old.table); last = now; regular = next_regular now word })
+      (cond (is_triggered_due old now) (record old { table = unmarked (aged_table now old.table); last = now; hold = next_hold now word }) (record old { table = aged_table now old.table; last = now })))) [
         | true ↦ record { rows = clean; owned = clean_owned }
-        | false ↦ elim (is_triggered_due old now) as (λ b. IsReached past (cond b (record old { table = unmarked (aged_table now old.table); last = now; hold = now + 1_000 + word % 4_001 }) (record old { table = aged_table now old.table; last = now }))) [
+        | false ↦ elim (is_triggered_due old now) as (λ b. IsReached past (cond b (record old { table = unmarked (aged_table now old.table); last = now; hold = next_hold now word }) (record old { table = aged_table now old.table; last = now }))) [
           | true ↦ record { rows = clean; owned = clean_owned }
           | false ↦ record { rows = rows; owned = owned }
         ]
@@ -250,10 +251,10 @@ module _ (net : Network) (is_net : IsNetwork net) where
 
   pub ticked_config : (old : State) (now word : ℕ) → (ticked old now word).config ≡ old.config
   ticked_config old now word =
-      elim (is_regular_due old now) as (λ b. (cond b (record old { table = unmarked (aged_table now old.table); last = now; regular = now + 15_000 + word % 30_001 })
-      (cond (is_triggered_due old now) (record old { table = unmarked (aged_table now old.table); last = now; hold = now + 1_000 + word % 4_001 }) (record old { table = aged_table now old.table; last = now }))).config ≡ old.config) [
+      elim (is_regular_due old now) as (λ b. (cond b (record old { table = unmarked (aged_table now old.table); last = now; regular = next_regular now word })
+      (cond (is_triggered_due old now) (record old { table = unmarked (aged_table now old.table); last = now; hold = next_hold now word }) (record old { table = aged_table now old.table; last = now }))).config ≡ old.config) [
         | true ↦ refl
-        | false ↦ elim (is_triggered_due old now) as (λ b. (cond b (record old { table = unmarked (aged_table now old.table); last = now; hold = now + 1_000 + word % 4_001 }) (record old { table = aged_table now old.table; last = now })).config ≡ old.config) [
+        | false ↦ elim (is_triggered_due old now) as (λ b. (cond b (record old { table = unmarked (aged_table now old.table); last = now; hold = next_hold now word }) (record old { table = aged_table now old.table; last = now })).config ≡ old.config) [
           | true ↦ refl
           | false ↦ refl
         ]

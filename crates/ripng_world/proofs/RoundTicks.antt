@@ -15,7 +15,7 @@ use Rattle.route_table.proofs.TableLaws.{Some-same, None-Some, all_entries, get-
 use Rattle.router_core.specs.Announcing.{is_announced, is_passive}
 use Rattle.router_core.specs.Config.{Config, mtu_at}
 use Rattle.router_core.specs.Adoption.{lost}
-use Rattle.router_core.specs.Timers.{timeout}
+use Rattle.router_core.specs.Timers.{next_hold, next_regular, timeout}
 use Rattle.router_core.specs.Ageing.{aged, aged_by_clock, aged_table, unmarked, without_mark}
 use Rattle.router_core.specs.Output.{Message, IsSpelled, AreSpelled, told, told_entry, is_learned_on, every_route, is_changed, pieces, numbers_below, responses, update_messages}
 use Rattle.router_core.specs.Machine.{State, Ticks, ticked, tick_messages, is_regular_due, is_triggered_due}
@@ -245,7 +245,7 @@ module _ (net : Network) (usable : IsUsable net) (owns : OwnsPrefixes net) (nois
     -- ---- the tick
 
     abbrev ticked_now : ℕ → State
-    ticked_now word = record s { table = unmarked (aged_table n s.table); last = n; regular = n + 15_000 + word % 30_001 }
+    ticked_now word = record s { table = unmarked (aged_table n s.table); last = n; regular = next_regular n word }
 
     unmarked_at : (p : Prefix6) → map_of.get (unmarked (aged_table n s.table)) p ≡ option_and_then without_mark (map_of.get s.table p)
     unmarked_at p = get-map_values without_mark (aged_table n s.table) p ∙ ap (option_and_then without_mark) (aged_same p)
@@ -330,11 +330,11 @@ module _ (net : Network) (usable : IsUsable net) (owns : OwnsPrefixes net) (nois
       reached : (r n : ℕ) → r ≤ n → nat_le r n ≡ true
       reached r n h = grind (arith, nat_tests)
 
-      pick : is_regular_due m.old (max m.old.last now) ≡ true → ticked m.old (max m.old.last now) word ≡ record m.old { table = unmarked (aged_table (max m.old.last now) m.old.table); last = max m.old.last now; regular = max m.old.last now + 15_000 + word % 30_001 }
+      pick : is_regular_due m.old (max m.old.last now) ≡ true → ticked m.old (max m.old.last now) word ≡ record m.old { table = unmarked (aged_table (max m.old.last now) m.old.table); last = max m.old.last now; regular = next_regular (max m.old.last now) word }
       pick e =
           let n : ℕ = max m.old.last now in
-          ap (λ b. cond b (record m.old { table = unmarked (aged_table n m.old.table); last = n; regular = n + 15_000 + word % 30_001 })
-          (cond (is_triggered_due m.old n) (record m.old { table = unmarked (aged_table n m.old.table); last = n; hold = n + 1_000 + word % 4_001 }) (record m.old { table = aged_table n m.old.table; last = n }))) e
+          ap (λ b. cond b (record m.old { table = unmarked (aged_table n m.old.table); last = n; regular = next_regular n word })
+          (cond (is_triggered_due m.old n) (record m.old { table = unmarked (aged_table n m.old.table); last = n; hold = next_hold n word }) (record m.old { table = aged_table n m.old.table; last = n }))) e
 
       messages : is_regular_due m.old (max m.old.last now) ≡ true → tick_messages m.old (max m.old.last now) ≡ update_messages m.old.config every_route (aged_table (max m.old.last now) m.old.table)
       messages e =

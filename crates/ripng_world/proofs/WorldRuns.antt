@@ -38,6 +38,7 @@ use Rattle.ripng_world.proofs.Members.{at_right}
 use Rattle.ripng_world.proofs.Growing.{cost_grows, owner_grows, table_grows, truth_grows}
 use Rattle.ripng_world.proofs.Telling.{lost_sound, aged_sound, link_down_sound, unmarked_sound, sends_true, starting_true}
 use Rattle.ripng_world.proofs.Keeping.{heard_sound}
+use Rattle.router_core.specs.Timers.{next_hold, next_regular}
 
 -- ---- tests
 
@@ -275,10 +276,10 @@ module _ (past : Past) (router : ℕ) where
   ticked_good old now word good =
       let kept = aged_sound past router now old.table good.sound in
       let clean = unmarked_sound past router (aged_table now old.table) kept in
-      elim (is_regular_due old now) as (λ b. IsGoodState past router (cond b (record old { table = unmarked (aged_table now old.table); last = now; regular = now + 15_000 + word % 30_001 })
-      (cond (is_triggered_due old now) (record old { table = unmarked (aged_table now old.table); last = now; hold = now + 1_000 + word % 4_001 }) (record old { table = aged_table now old.table; last = now })))) [
+      elim (is_regular_due old now) as (λ b. IsGoodState past router (cond b (record old { table = unmarked (aged_table now old.table); last = now; regular = next_regular now word })
+      (cond (is_triggered_due old now) (record old { table = unmarked (aged_table now old.table); last = now; hold = next_hold now word }) (record old { table = aged_table now old.table; last = now })))) [
         | true ↦ record { configured = good.configured; sound = clean }
-        | false ↦ elim (is_triggered_due old now) as (λ b. IsGoodState past router (cond b (record old { table = unmarked (aged_table now old.table); last = now; hold = now + 1_000 + word % 4_001 }) (record old { table = aged_table now old.table; last = now }))) [
+        | false ↦ elim (is_triggered_due old now) as (λ b. IsGoodState past router (cond b (record old { table = unmarked (aged_table now old.table); last = now; hold = next_hold now word }) (record old { table = aged_table now old.table; last = now }))) [
           | true ↦ record { configured = good.configured; sound = clean }
           | false ↦ record { configured = good.configured; sound = kept }
         ]

@@ -17,6 +17,7 @@ use Rattle.ripngd_engine.specs.Changing.{LinkComesUpOnce, ReconfiguresNothing}
 use Rattle.ripngd_engine.specs.Link.{Call, Gave, Silent, RecvFailed, Handed}
 use Rattle.ripngd_engine.specs.Run.{Machine, Trace, MovedOrLost, arrival}
 use Rattle.ripngd_theorems.specs.Daemons.{Act, Start, Listen, Tick, Reconfigure, Shutdown, LinkDown, LinkUp, Ask, Refuse, Deed, Does, Goes, HearsCall, Lives, in_force}
+use Rattle.router_core.specs.Timers.{next_hold, next_regular}
 
 -- ---- a router
 
@@ -37,8 +38,8 @@ arrived old now x answer new (Some why) refuses = ap (λ (s : State). count_of s
 same_ticked : (old : State) (now word : ℕ) → count_of (ticked old now word).config ≡ count_of old.config
 same_ticked old now word = by_due (is_regular_due old now) (is_triggered_due old now)
   where
-    by_due : (b c : Bool) → count_of (cond b (record old { table = unmarked (aged_table now old.table); last = now; regular = now + 15_000 + word % 30_001 })
-        (cond c (record old { table = unmarked (aged_table now old.table); last = now; hold = now + 1_000 + word % 4_001 }) (record old { table = aged_table now old.table; last = now }))).config ≡ count_of old.config
+    by_due : (b c : Bool) → count_of (cond b (record old { table = unmarked (aged_table now old.table); last = now; regular = next_regular now word })
+        (cond c (record old { table = unmarked (aged_table now old.table); last = now; hold = next_hold now word }) (record old { table = aged_table now old.table; last = now }))).config ≡ count_of old.config
     by_due true c = refl
     by_due false true = refl
     by_due false false = refl

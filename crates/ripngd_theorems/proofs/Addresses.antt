@@ -16,6 +16,7 @@ use Rattle.router_core.specs.declared.config.Interface.{Interface}
 use Rattle.router_core.specs.declared.reconfiguring.Change.{Change}
 use Rattle.router_core.specs.declared.reconfiguring.Change.TheVariants.{Cost, Own, Disown}
 use Rattle.ripng_world.proofs.WorldRuns.{any_map, get_map, set_addresses, zoned_address}
+use Rattle.router_core.specs.Timers.{next_hold, next_regular}
 
 -- ---- addresses stay
 
@@ -36,8 +37,8 @@ arrived_addresses old now x answer new (Some why) refuses = ap (λ (s : State). 
 ticked_addresses : (old : State) (now word : ℕ) → addresses_of (ticked old now word).config ≡ addresses_of old.config
 ticked_addresses old now word = by_due (is_regular_due old now) (is_triggered_due old now)
   where
-    by_due : (b c : Bool) → addresses_of (cond b (record old { table = unmarked (aged_table now old.table); last = now; regular = now + 15_000 + word % 30_001 })
-        (cond c (record old { table = unmarked (aged_table now old.table); last = now; hold = now + 1_000 + word % 4_001 }) (record old { table = aged_table now old.table; last = now }))).config ≡ addresses_of old.config
+    by_due : (b c : Bool) → addresses_of (cond b (record old { table = unmarked (aged_table now old.table); last = now; regular = next_regular now word })
+        (cond c (record old { table = unmarked (aged_table now old.table); last = now; hold = next_hold now word }) (record old { table = aged_table now old.table; last = now }))).config ≡ addresses_of old.config
     by_due true c = refl
     by_due false true = refl
     by_due false false = refl

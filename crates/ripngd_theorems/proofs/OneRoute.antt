@@ -30,6 +30,7 @@ use Rattle.router_core.specs.declared.reconfiguring.Change.{Change}
 use Rattle.router_core.specs.declared.reconfiguring.Change.TheVariants.{Cost, Own, Disown}
 use Rattle.router_core.proofs.HearingSteps.{before_all, after_one, at_place}
 use Rattle.ripng_world.proofs.Each.{each_image}
+use Rattle.router_core.specs.Timers.{next_hold, next_regular}
 
 -- what holds of a route that there may be
 abbrev pub OfRoute : (RouteValue → Type 0) → Option RouteValue → Type 0
@@ -130,8 +131,8 @@ module _ (P : RouteValue → Type 0) (kept : IsKept P) where
         aged_at : At (aged_table now old.table)
         aged_at = aged_table_keeps now old.table holds
 
-        by_due : (b c : Bool) → At (cond b (record old { table = unmarked (aged_table now old.table); last = now; regular = now + 15_000 + word % 30_001 })
-            (cond c (record old { table = unmarked (aged_table now old.table); last = now; hold = now + 1_000 + word % 4_001 }) (record old { table = aged_table now old.table; last = now }))).table
+        by_due : (b c : Bool) → At (cond b (record old { table = unmarked (aged_table now old.table); last = now; regular = next_regular now word })
+            (cond c (record old { table = unmarked (aged_table now old.table); last = now; hold = next_hold now word }) (record old { table = aged_table now old.table; last = now }))).table
         by_due true c = unmarked_keeps (aged_table now old.table) aged_at
         by_due false true = unmarked_keeps (aged_table now old.table) aged_at
         by_due false false = aged_at

@@ -14,6 +14,7 @@ use Rattle.ripng_world.specs.World.{World, Event, Deliver, Stranger, Tick, Resta
 use Rattle.ripng_world.proofs.RoundNeighbors.{state_after}
 use Rattle.ripng_phases.specs.Phases.{IsOrdinary}
 use Rattle.ripng_phases.proofs.Later.{arrived_later}
+use Rattle.router_core.specs.Timers.{next_hold, next_regular}
 
 -- ---- one move
 
@@ -41,8 +42,8 @@ pub ticked_wound : (old : State) (now word : ℕ) → old.regular ≤ old.last +
 ticked_wound old now word wound later = by (is_regular_due old now) (is_triggered_due old now)
   where
     by : (b c : Bool)
-        → IsWound now (cond b (record old { table = unmarked (aged_table now old.table); last = now; regular = now + 15_000 + word % 30_001 })
-        (cond c (record old { table = unmarked (aged_table now old.table); last = now; hold = now + 1_000 + word % 4_001 }) (record old { table = aged_table now old.table; last = now })))
+        → IsWound now (cond b (record old { table = unmarked (aged_table now old.table); last = now; regular = next_regular now word })
+        (cond c (record old { table = unmarked (aged_table now old.table); last = now; hold = next_hold now word }) (record old { table = aged_table now old.table; last = now })))
     by true c = (refl, omega arith)
     by false true = (refl, omega arith)
     by false false = (refl, omega arith)
@@ -52,8 +53,8 @@ ticked_same : (old : State) (now word : ℕ) → now < old.regular → (ticked o
 ticked_same old now word early = by (is_regular_due old now) (is_triggered_due old now) refl
   where
     by : (b c : Bool) → is_regular_due old now ≡ b
-        → (cond b (record old { table = unmarked (aged_table now old.table); last = now; regular = now + 15_000 + word % 30_001 })
-        (cond c (record old { table = unmarked (aged_table now old.table); last = now; hold = now + 1_000 + word % 4_001 }) (record old { table = aged_table now old.table; last = now }))).regular ≡ old.regular
+        → (cond b (record old { table = unmarked (aged_table now old.table); last = now; regular = next_regular now word })
+        (cond c (record old { table = unmarked (aged_table now old.table); last = now; hold = next_hold now word }) (record old { table = aged_table now old.table; last = now }))).regular ≡ old.regular
     by true c is = absurd (grind (arith, nat_tests, is, early))
     by false true is = refl
     by false false is = refl
