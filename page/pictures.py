@@ -13,7 +13,7 @@ import tempfile
 import zlib
 
 ROOT = os.path.join(os.path.dirname(os.path.realpath(__file__)), "..")
-sys.path.insert(0, os.path.join(ROOT, "tests"))
+sys.path.insert(0, os.path.join(ROOT, "tests/support"))
 sys.dont_write_bytecode = True
 import browser  # noqa: E402
 

@@ -14,16 +14,19 @@ cd "$(dirname "$0")/.." || exit 1
 folder=$(mktemp -d)
 trap 'rm -rf "$folder"' EXIT
 
-# What stands behind a colon is given to the suite, too. Only `links.sh` is so long that the others do not wait for it.
-moments="asking.py sending.py neighbors.py control.py clients.py sockets.py inherited.py watching.py premises.py bench.py"
+# What stands behind a colon is given to the suite, too. Only that of links is so long that the others do not wait for it.
+links=links/links.sh
+moments="daemon/asking.py daemon/sending.py daemon/neighbors.py daemon/control.py daemon/clients.py daemon/sockets.py daemon/inherited.py
+daemon/watching.py premises/premises.py bench/bench.py"
 # The longest first.
-others="marked.py page.py:chromium page.py:firefox page.py:modules rows.py growth.py growth_of_calls.py cases.py lab_file.py mutated.py hints.py scripts.py
-pages.py paths.py capture.py topologies.py numbers.py shares.py large.py gate.py"
+others="repository/marked.py page/page.py:chromium page/page.py:firefox page/page.py:modules command/rows.py growth/growth.py
+growth/growth_of_calls.py command/cases.py page/lab_file.py command/mutated.py command/hints.py lab/scripts.py repository/pages.py lab/paths.py
+captures/capture.py lab/topologies.py lab/numbers.py lab/shares.py lab/large.py repository/gate.py"
 
 # `arguments SUITE`: which of the two programs a suite is given, and its word.
 arguments() {
     case $1 in
-        rows.py | growth_of_calls.py) echo "$rows" ;;
+        */rows.py | */growth_of_calls.py) echo "$rows" ;;
         *:*) echo "$program" "${1#*:}" ;;
         *) echo "$program" ;;
     esac
@@ -32,13 +35,14 @@ arguments() {
 # `run SUITE`: leaves what it said, and how many seconds it took.
 run() {
     local begun=$SECONDS words
+    mkdir -p "$folder/${1%/*}"
     read -ra words <<< "$(arguments "$1")"
     "tests/${1%:*}" "${words[@]}" > "$folder/$1" 2>&1
     echo $((SECONDS - begun)) > "$folder/$1.seconds"
 }
 
-run links.sh &
-links=$!
+run $links &
+longest=$!
 first=()
 for suite in $moments; do
     run "$suite" &
@@ -46,7 +50,7 @@ for suite in $moments; do
 done
 wait "${first[@]}"
 for suite in $others; do
-    while [ "$(jobs -rp | grep -cvx $links)" -ge "$(nproc)" ]; do
+    while [ "$(jobs -rp | grep -cvx $longest)" -ge "$(nproc)" ]; do
         wait -n
     done
     run "$suite" &
@@ -55,7 +59,7 @@ wait
 
 passed=0
 failed=0
-suites="links.sh $moments $others"
+suites="$links $moments $others"
 for suite in $suites; do
     echo "== $suite, $(cat "$folder/$suite.seconds") s"
     grep -v '^ok ' "$folder/$suite"

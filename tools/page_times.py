@@ -12,7 +12,7 @@ import sys
 import time
 
 ROOT = os.path.join(os.path.dirname(os.path.realpath(__file__)), "..")
-sys.path[:0] = [os.path.join(ROOT, folder) for folder in ("tests", "page")]
+sys.path[:0] = [os.path.join(ROOT, folder) for folder in ("tests/support", "page")]
 sys.dont_write_bytecode = True
 import browser  # noqa: E402
 import film  # noqa: E402

@@ -1,7 +1,7 @@
 #!/usr/bin/env python3
 """The bench (bench/): its pure parts, and its quick rules at a program.
 
-    tests/bench.py PROGRAM [NAME..]      all cases, or those that have NAME in theirs; a rule that is named is played, also where it is not quick
+    tests/bench/bench.py PROGRAM [NAME..]      all cases, or those that have NAME in theirs; a rule that is named is played, also where it is not quick
 
 Rules need root, and name spaces of the network: where these are missing, a line `skipped: ..` says so."""
 
@@ -16,7 +16,8 @@ import tempfile
 from ipaddress import IPv6Address
 
 sys.dont_write_bytecode = True
-BENCH = pathlib.Path(__file__).resolve().parent.parent / "bench"
+sys.path.append(str(pathlib.Path(__file__).resolve().parents[1] / "support"))
+BENCH = pathlib.Path(__file__).resolve().parents[2] / "bench"
 sys.path.insert(1, str(BENCH))
 import frames
 import judges

@@ -2,15 +2,14 @@
 """Captures: what `lab --pcap` writes of each example, beside its trace, and read by tshark; and what `show --pcap` reads, of each form of
 file and of frames, of cut and broken files, of 2,000 files made by chance, and of what tcpdump captured of BIRD and FRR.
 
-    tests/capture.py PROGRAM [NAME..]      all cases, or those that have NAME in theirs
+    tests/captures/capture.py PROGRAM [NAME..]      all cases, or those that have NAME in theirs
 
-A file of pcap or pcapng is written here by the definitions of the formats (tests/pcaps.py), and so is read what `lab --pcap` wrote. What
-a datagram holds, and which test of a router it fails, is told here by RFC 2080 (tests/captured.py). Without tshark, a line `skipped: ..`
+A file of pcap or pcapng is written here by the definitions of the formats (tests/captures/pcaps.py), and so is read what `lab --pcap` wrote. What
+a datagram holds, and which test of a router it fails, is told here by RFC 2080 (tests/captures/captured.py). Without tshark, a line `skipped: ..`
 says what was left out.
 """
 
 import functools
-import ipaddress
 import pathlib
 import random
 import re
@@ -20,12 +19,14 @@ import subprocess
 import sys
 
 sys.dont_write_bytecode = True
+sys.path.append(str(pathlib.Path(__file__).resolve().parents[1] / "support"))
 import pcaps
 from captured import Traced, datagram_of, listing, said, wire_fault
+from datagrams import REQUEST, entry, request, response
 from pcaps import Datagram
 from suite import Failed, named, play, same
 
-ROOT = pathlib.Path(__file__).resolve().parent.parent
+ROOT = pathlib.Path(__file__).resolve().parents[2]
 SCRIPTS = sorted((ROOT / "examples").rglob("*.lab"))
 FILES, BATCHES = 2_000, 20
 # What tshark has to say of a packet that has a comment: that it has one.
@@ -49,16 +50,8 @@ def shown(program, folder, file):
     return out.splitlines(), status
 
 
-def entry(prefix, length=32, tag=0, metric=1):
-    return ipaddress.IPv6Address(prefix).packed + struct.pack(">HBB", tag, length, metric)
-
-
-def response(*entries):
-    return b"\2\1\0\0" + b"".join(entries)
-
-
-ROUTE = Datagram(response(entry("2001:db8::")))
-TABLE = Datagram(response(entry("fe80::9", 0, 0, 255), entry("2001:db8:1::", 48, 7, 16)), "fe80::b0")
+ROUTE = Datagram(response(entry("2001:db8::/32", 1)))
+TABLE = Datagram(response(entry("fe80::9/0", 255), entry("2001:db8:1::/48", 16, 7)), "fe80::b0")
 TIMES = [1_700_000_000_123_456_000, 1_700_000_030_000_001_000]
 
 
@@ -185,7 +178,7 @@ def skips_others(program, folder):
 
 def refuses(program, folder):
     """Each test of a router that a datagram alone may fail, with the number that comes of it, by hand."""
-    empty, ask = b"\1\1\0\0", b"\1\1\0\0" + entry("::", 0, 0, 16)
+    empty, ask = request(), REQUEST
     far = {"source": "2001:db8::1"}
     rows = [
         (b"\2\1\0", {}, "1 Short"), (b"", {}, "1 Short"), (b"\2\1\0\0" + bytes(20 * 3277), {}, None), (b"\2\1\0\0\0", {}, "3 Ragged"),
@@ -292,7 +285,7 @@ def cases(program):
     if shutil.which("tshark"):
         found += [(f"tshark reads that of {script.relative_to(ROOT)}", functools.partial(is_read_by_tshark, program, script)) for script in SCRIPTS]
     else:
-        print("skipped: there is no tshark, so captures of the laboratory are read by tests/pcaps.py alone")
+        print("skipped: there is no tshark, so captures of the laboratory are read by tests/captures/pcaps.py alone")
     found += [(f"frames of {name}", functools.partial(reads_links, program, name)) for name in LINKS]
     found += [(f"a cut file of {form}", functools.partial(tells_cuts, program, form)) for form in ("pcap", "pcapng")]
     found += [(f"files by chance, {batch}", functools.partial(bears_chance, program, batch)) for batch in range(BATCHES)]

@@ -1,7 +1,7 @@
 #!/usr/bin/env python3
 """Plays the cases of tests/cases on the built program.
 
-    tests/cases.py PROGRAM [NAME..]     all files, or those of these names (`help`); `help: version` is each case of the file help.case
+    tests/command/cases.py PROGRAM [NAME..]     all files, or those of these names (`help`); `help: version` is each case of the file help.case
                                         whose sentence has `version` in it
 
 A file NAME.case is text. An empty line, and one that begins with `#`, says nothing; the others are
@@ -29,9 +29,10 @@ import sys
 import time
 
 sys.dont_write_bytecode = True
+sys.path.append(str(pathlib.Path(__file__).resolve().parents[1] / "support"))
 from suite import Failed, Ports, end_group, play
 
-TESTS = pathlib.Path(__file__).resolve().parent
+TESTS = pathlib.Path(__file__).resolve().parents[1]
 SECONDS = 60
 WORD = re.compile(r"\bPORT[1-9]\b")
 
@@ -185,5 +186,5 @@ def main(program, *names):
 
 if __name__ == "__main__":
     if len(sys.argv) < 2:
-        sys.exit("usage: tests/cases.py PROGRAM [NAME..]")
+        sys.exit("usage: tests/command/cases.py PROGRAM [NAME..]")
     sys.exit(main(*sys.argv[1:]))

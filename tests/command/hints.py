@@ -2,7 +2,7 @@
 """Hints. A line of each form is obeyed, and with a word more it is refused, with the form as its hint. The record of a refused line in a
 trace has the same hint as `lab` has on standard error, or none: in each case of hints, and in examples that were spoiled at random.
 
-    tests/hints.py PROGRAM [NAME..]      all cases, or those that have NAME in theirs
+    tests/command/hints.py PROGRAM [NAME..]      all cases, or those that have NAME in theirs
 """
 
 import json
@@ -13,10 +13,11 @@ import subprocess
 import sys
 
 sys.dont_write_bytecode = True
+sys.path.append(str(pathlib.Path(__file__).resolve().parents[1] / "support"))
 from cases import Case, blocks_of
 from suite import Failed, named, play, same
 
-TESTS = pathlib.Path(__file__).resolve().parent
+TESTS = pathlib.Path(__file__).resolve().parents[1]
 EXAMPLES = TESTS.parent / "examples"
 SCRIPTS = TESTS.parent / "docs/SCRIPTS.md"
 SECONDS = 60

@@ -2,7 +2,7 @@
 """100,000 datagrams, made by chance from those that BIRD sent, come to two routers of a laboratory: one hears Responses whole, the other
 entry by entry. Their tables are the same throughout, and so is all that they send.
 
-    tests/mutated.py PROGRAM
+    tests/command/mutated.py PROGRAM
 
 What a datagram is to be taken for is judged here, by RFC 2080, section 2.4: a Response that a router has to hear comes as a liar's,
 anything else as a stranger's. The laboratory refuses a script that has one for the other.
@@ -11,14 +11,14 @@ anything else as a stranger's. The laboratory refuses a script that has one for 
 import pathlib
 import random
 import re
-import struct
 import subprocess
 import sys
 
 sys.dont_write_bytecode = True
+sys.path.append(str(pathlib.Path(__file__).resolve().parents[1] / "support"))
 from suite import Failed, play, same
 
-CASES = pathlib.Path(__file__).resolve().parent / "cases"
+CASES = pathlib.Path(__file__).resolve().parents[1] / "cases"
 NETWORKS, DATAGRAMS = 10, 10_000
 TICKS, PRINTS = 50, 500
 

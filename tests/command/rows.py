@@ -2,7 +2,7 @@
 """Rows of crates/test_rows that are too long to be written down: they are made here, with what must come of them, and played over both
 stores of routes. A store is asked random commands, and has to answer as a model does: a dictionary of routes.
 
-    tests/rows.py ROWS_PROGRAM [NAME..]        all cases, or those that have NAME in theirs
+    tests/command/rows.py ROWS_PROGRAM [NAME..]        all cases, or those that have NAME in theirs
 """
 
 import bisect
@@ -13,6 +13,7 @@ import subprocess
 import sys
 
 sys.dont_write_bytecode = True
+sys.path.append(str(pathlib.Path(__file__).resolve().parents[1] / "support"))
 from suite import Failed, named, play
 
 ASKED = [f"send {iface} group 01010000{' 00000000' * 4} 00000010" for iface in range(2)]

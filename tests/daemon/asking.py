@@ -1,18 +1,20 @@
 #!/usr/bin/env python3
 """A router that has lost a route asks its neighbors for their tables: when, where, how often, and when not.
 
-    tests/asking.py PROGRAM [NAME..]
+    tests/daemon/asking.py PROGRAM [NAME..]
 
 A line for each case that fails, and last how many passed. What is expected is the rule of docs/PROTOCOL.md."""
 
+import pathlib
 import sys
 import time
 
 sys.dont_write_bytecode = True
-from daemons import interface, listed, main, peer, prefix, until
+sys.path.append(str(pathlib.Path(__file__).resolve().parents[1] / "support"))
+from daemons import interface, listed, main, peer, prefix
 from datagrams import REQUEST, entry, response
 from ordered import Ordered, environment
-from suite import same
+from suite import same, until
 
 LOST = "2001:db8:1::/48"
 """What the first neighbor tells, and then tells no more."""

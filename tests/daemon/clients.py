@@ -1,11 +1,12 @@
 #!/usr/bin/env python3
 """Who may connect to a router's control socket, and how clients are served: one after the other, and none keeps the router from its turns.
 
-    tests/clients.py PROGRAM [NAME..]
+    tests/daemon/clients.py PROGRAM [NAME..]
 
 A line for each case that fails, and last how many passed."""
 
 import os
+import pathlib
 import stat
 import subprocess
 import sys
@@ -13,10 +14,11 @@ import time
 from errno import EAGAIN, ECONNABORTED, ECONNRESET, EINTR, EIO, EMFILE, EPIPE
 
 sys.dont_write_bytecode = True
-from daemons import interface, listed, main, peer, SECONDS, until
+sys.path.append(str(pathlib.Path(__file__).resolve().parents[1] / "support"))
+from daemons import interface, listed, main, peer
 from datagrams import feed, table
 from ordered import calls, environment
-from suite import same
+from suite import SECONDS, same, until
 from talking import alone, answers, OWN_TABLE
 
 ROUTES = int(os.environ.get("ROUTES", 20_000))

@@ -1,19 +1,21 @@
 #!/usr/bin/env python3
 """A router that runs is asked and told at its control socket: what it answers, and what comes of it.
 
-    tests/control.py PROGRAM [NAME..]
+    tests/daemon/control.py PROGRAM [NAME..]
 
 A line for each case that fails, and last how many passed."""
 
 import os
+import pathlib
 import re
 import sys
 
 sys.dont_write_bytecode = True
-from daemons import interface, listed, main, peer, prefix, Router, until
+sys.path.append(str(pathlib.Path(__file__).resolve().parents[1] / "support"))
+from daemons import interface, listed, main, peer, prefix, Router
 from datagrams import entry, feed, request, response, table
 from ordered import environment
-from suite import same
+from suite import same, until
 from talking import alone, answers, OWN, OWN_TABLE, plain, refuses
 
 EAST, WEST = "2001:db8:e::/48", "2001:db8:f::/48"

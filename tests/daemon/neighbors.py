@@ -1,11 +1,12 @@
 #!/usr/bin/env python3
 """Routers as processes of 127.0.0.1 that are neighbors: what they learn from each other, and what disturbs them.
 
-    tests/neighbors.py PROGRAM [NAME..]
+    tests/daemon/neighbors.py PROGRAM [NAME..]
 
 A line for each case that fails, and last how many passed. ROUTES=N tells how many routes large tables have, 20,000 where it does not."""
 
 import os
+import pathlib
 import select
 import signal
 import subprocess
@@ -14,9 +15,10 @@ import threading
 import time
 
 sys.dont_write_bytecode = True
-from daemons import interface, listed, main, peer, prefix, until
+sys.path.append(str(pathlib.Path(__file__).resolve().parents[1] / "support"))
+from daemons import interface, listed, main, peer, prefix
 from datagrams import feed, table, waiting_at
-from suite import Failed, same
+from suite import Failed, same, until
 
 ROUTES = int(os.environ.get("ROUTES", 20_000))
 SOON = 12

@@ -1,4 +1,4 @@
-"""Routers to whom the system answers as is ordered (tests/system.c): a clock of the test's own, and calls that fail; each call is noted."""
+"""Routers to whom the system answers as is ordered (system.c): a clock of the test's own, and calls that fail; each call is noted."""
 
 import pathlib
 
@@ -10,7 +10,7 @@ SOURCE = pathlib.Path(__file__).with_name("system.c")
 
 
 def environment(folder, name, **orders):
-    """What orders the system's answers to a program, as tests/system.c has them; its calls stand in NAME.calls."""
+    """What orders the system's answers to a program, as system.c has them; its calls stand in NAME.calls."""
     return dict({f"SYSTEM_{order.upper()}": str(value) for order, value in orders.items()},
                 LD_PRELOAD=compiled(SOURCE), SYSTEM_LOG=f"{folder}/{name}.calls")
 

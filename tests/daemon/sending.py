@@ -1,17 +1,19 @@
 #!/usr/bin/env python3
 """What a router sends by its sockets on 127.0.0.1, to whom, and when.
 
-    tests/sending.py PROGRAM [NAME..]
+    tests/daemon/sending.py PROGRAM [NAME..]
 
-A line for each case that fails, and last how many passed. Where moments count, the clock is the test's own (tests/system.c), so that they
+A line for each case that fails, and last how many passed. Where moments count, the clock is the test's own (system.c), so that they
 are exact: it stands still but for what is slept and waited."""
 
+import pathlib
 import socket
 import struct
 import sys
 from errno import EINTR, EPERM
 
 sys.dont_write_bytecode = True
+sys.path.append(str(pathlib.Path(__file__).resolve().parents[1] / "support"))
 from daemons import interface, listed, main, peer, prefix
 from datagrams import MOST, REQUEST, entry, request, response
 from ordered import Ordered

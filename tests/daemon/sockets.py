@@ -1,13 +1,14 @@
 #!/usr/bin/env python3
 """What a router's sockets on 127.0.0.1 give it: who is heard, when they are read, and what is lost; and how they are had.
 
-    [WATCHED=SECONDS] tests/sockets.py PROGRAM [NAME..]
+    [WATCHED=SECONDS] tests/daemon/sockets.py PROGRAM [NAME..]
 
 Ticks are watched for 4 seconds, or for those of WATCHED. A line for each case that fails, and last how many passed. Where moments
-count, the clock is the test's own (tests/system.c), so that they are exact: it stands still but for what is slept and waited."""
+count, the clock is the test's own (system.c), so that they are exact: it stands still but for what is slept and waited."""
 
 import math
 import os
+import pathlib
 import re
 import sys
 import threading
@@ -15,10 +16,11 @@ import time
 from errno import EACCES, EADDRINUSE, EINTR, EIO, EMFILE, ENOMEM
 
 sys.dont_write_bytecode = True
-from daemons import interface, listed, main, Neighbor, peer, prefix, until
+sys.path.append(str(pathlib.Path(__file__).resolve().parents[1] / "support"))
+from daemons import interface, listed, main, Neighbor, peer, prefix
 from datagrams import MOST, REQUEST, entry, response, waiting_at
 from ordered import Ordered, calls, environment
-from suite import same
+from suite import same, until
 
 WATCHED = float(os.environ.get("WATCHED", 4))
 OWN = "2001:db8::/32"

@@ -25,7 +25,7 @@
 #include <time.h>
 #include <unistd.h>
 
-#include "ports.h"
+#include "../support/ports.h"
 
 enum call { BIND, ACCEPT, SENDTO, RECVFROM, WAIT, SLEEP, CLOCK, WRITE1, WRITE2, WRITE3, RECV, SEND, LIST, LISTED, CALLS };
 static const char *const names[CALLS] = {

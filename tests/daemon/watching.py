@@ -1,25 +1,27 @@
 #!/usr/bin/env python3
 """What a router says and counts of what it refuses, and what it writes to its log and when: also where a write fails.
 
-    tests/watching.py PROGRAM [NAME..]
+    tests/daemon/watching.py PROGRAM [NAME..]
 
-A line for each case that fails, and last how many passed. The system answers as is ordered (tests/system.c): its clock stands still,
+A line for each case that fails, and last how many passed. The system answers as is ordered (system.c): its clock stands still,
 and writes fail in turn."""
 
 import json
 import os
+import pathlib
 import re
 import subprocess
 import sys
 from errno import ENOSPC
 
 sys.dont_write_bytecode = True
-sys.path.insert(0, os.path.join(os.path.dirname(os.path.abspath(__file__)), "../companion"))
-from daemons import interface, listed, main, peer, prefix, SECONDS, until
+sys.path.append(str(pathlib.Path(__file__).resolve().parents[1] / "support"))
+sys.path.insert(0, str(pathlib.Path(__file__).resolve().parents[2] / "companion"))
+from daemons import interface, listed, main, peer, prefix
 from datagrams import MOST, REQUEST, entry, feed, response, table
 from ordered import Ordered
 from shape import ENTRIES, PACKETS, SHAPE
-from suite import Failed, same
+from suite import SECONDS, Failed, same, until
 
 OWN = "2001:db8::/32"
 OWN_TABLE = f"{OWN} metric 1 direct\n"

@@ -3,9 +3,9 @@
 A run has to end with status 3 and `out of memory`, and nothing that looks like more than it is; or do what the undisturbed run does; or
 say what it has left out for want of memory, as a router may do. No run hangs, ends by a signal, or gives another answer.
 
-    tests/growth.py PROGRAM [ROWS_PROGRAM] [NAME..]        all cases, or those that have NAME in theirs
+    tests/growth/growth.py PROGRAM [ROWS_PROGRAM] [NAME..]        all cases, or those that have NAME in theirs
 
-ROWS_PROGRAM is a file, crates/test_rows as it was built: calls that no command reaches, which tests/growth_of_calls.py has it make.
+ROWS_PROGRAM is a file, crates/test_rows as it was built: calls that no command reaches, which tests/growth/growth_of_calls.py has it make.
 """
 
 import contextlib
@@ -15,12 +15,12 @@ import re
 import sys
 
 sys.dont_write_bytecode = True
+sys.path.append(str(pathlib.Path(__file__).resolve().parents[1] / "support"))
 from growth_over_sockets import sweep_router
 from refusing import MESSAGE, Refuser, is_told, sweep
 from suite import Failed, named, play
 
-TESTS = pathlib.Path(__file__).resolve().parent
-EXAMPLES = TESTS.parent / "examples"
+EXAMPLES = pathlib.Path(__file__).resolve().parents[2] / "examples"
 
 NO_MEMORY = '"number":24,"name":"NoMemory"'
 SKIPPED = "is skipped, 24 NoMemory"

@@ -2,7 +2,7 @@
 """Each growth of calls refused in turn: crates/test_rows plays cases of its data with the first allocation refused, then with the second,
 and so on until none is; and with all refused from the first on, from the second on, and so on.
 
-    tests/growth_of_calls.py ROWS_PROGRAM [NAME..]        all cases, or those that have NAME in theirs
+    tests/growth/growth_of_calls.py ROWS_PROGRAM [NAME..]        all cases, or those that have NAME in theirs
 
 A call that is refused has to leave all readers as they were, and made again it has to do what it does undisturbed: then the case
 turns out as without the refusal. What takes no memory succeeds whatever is refused. Only where the program itself cannot go on it
@@ -15,10 +15,11 @@ import subprocess
 import sys
 
 sys.dont_write_bytecode = True
+sys.path.append(str(pathlib.Path(__file__).resolve().parents[1] / "support"))
 from refusing import Refuser, is_same
 from suite import Failed, named, play
 
-DATA = pathlib.Path(__file__).resolve().parent.parent / "crates/test_rows/data"
+DATA = pathlib.Path(__file__).resolve().parents[2] / "crates/test_rows/data"
 
 # The cases, and what has to be refused at least once in each: the program tells on standard error which call it was.
 REFUSED = {

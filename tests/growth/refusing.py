@@ -1,31 +1,28 @@
-"""Runs of a program to which memory is refused, by tests/refuse.c."""
+"""Runs of a program to which memory is refused, by refuse.c."""
 
 import collections
 import os
 import pathlib
-import shutil
 import subprocess
-import sys
 import tempfile
 
+from preloaded import compiled
 from suite import Failed, same
 
+SOURCE = pathlib.Path(__file__).with_name("refuse.c")
 SECONDS = 60
 MESSAGE = b"ripngd: out of memory\n"
 
 
 class Refuser:
-    """A program, and the library that refuses it memory, which is compiled into a folder of its own for the time of a `with`."""
+    """A program, and the library that refuses it memory; and a folder for the time of a `with`."""
 
     def __init__(self, program):
         self.program = str(pathlib.Path(program).resolve(strict=True))
 
     def __enter__(self):
-        if not shutil.which("cc"):
-            sys.exit("FAILED: there is no C compiler, by which memory is refused")
+        self.library = compiled(SOURCE)
         self.folder = tempfile.TemporaryDirectory(prefix="ripngd-refuse-")
-        self.library = os.path.join(self.folder.name, "refuse.so")
-        subprocess.run(["cc", "-shared", "-fPIC", "-O1", "-o", self.library, pathlib.Path(__file__).with_name("refuse.c")], check=True)
         return self
 
     def __exit__(self, *_):

@@ -1,8 +1,8 @@
 #!/usr/bin/env python3
 """Large networks: after rounds each metric is the distance that a breadth-first search finds, and so it is again after a link is down.
 
-    tests/large.py PROGRAM [NAME..]      networks of 1,000 routers, all or those that have NAME in theirs
-    tests/large.py PROGRAM 4096          the largest networks, with 256 prefixes; first what 20 rounds take of each, in processor seconds and MB
+    tests/lab/large.py PROGRAM [NAME..]      networks of 1,000 routers, all or those that have NAME in theirs
+    tests/lab/large.py PROGRAM 4096          the largest networks, with 256 prefixes; first what 20 rounds take of each, in processor seconds and MB
 """
 
 import collections
@@ -13,10 +13,11 @@ import sys
 import tempfile
 
 sys.dont_write_bytecode = True
+sys.path.append(str(pathlib.Path(__file__).resolve().parents[1] / "support"))
 from networks import metrics_of
 from suite import named, play, same
 
-sys.path.append(str(pathlib.Path(__file__).resolve().parent.parent / "tools"))
+sys.path.append(str(pathlib.Path(__file__).resolve().parents[2] / "tools"))
 import topology
 
 # Shapes, each with how many of its routers own a prefix.

@@ -1,7 +1,7 @@
 #!/usr/bin/env python3
 """Lines of numbers of a laboratory, by intervals and by seeds, beside a plain count of its trace and what `counts` prints.
 
-    tests/numbers.py PROGRAM [NAME..]      all cases, or those that have NAME in theirs
+    tests/lab/numbers.py PROGRAM [NAME..]      all cases, or those that have NAME in theirs
 """
 
 import collections
@@ -11,11 +11,12 @@ import subprocess
 import sys
 
 sys.dont_write_bytecode = True
+sys.path.append(str(pathlib.Path(__file__).resolve().parents[1] / "support"))
 from networks import Owner, Port, lab, lines_of
 from suite import Failed, named, play, same
 from recounted import events_of
 
-ROOT = pathlib.Path(__file__).resolve().parent.parent
+ROOT = pathlib.Path(__file__).resolve().parents[2]
 NUMBERS = ("datagrams", "entries", "bytes", "regular", "triggered", "requests", "replies", "changes")
 SEEDS = ROOT / "tools/seeds.sh"
 

@@ -2,7 +2,7 @@
 """What `path` prints of networks, compared with a plain computation over the tables that `print` shows: which routers hand a packet on, and
 how it ends.
 
-    tests/paths.py PROGRAM [NAME..]      all cases, or those that have NAME in theirs
+    tests/lab/paths.py PROGRAM [NAME..]      all cases, or those that have NAME in theirs
 """
 
 import ipaddress
@@ -12,8 +12,9 @@ import re
 import sys
 
 sys.dont_write_bytecode = True
-from networks import ROUTE, Network, lab
-from scripts import EXAMPLES, changing_square, random_network
+sys.path.append(str(pathlib.Path(__file__).resolve().parents[1] / "support"))
+from networks import ROUTE, Network, lab, random_network
+from scripts import EXAMPLES, changing_square
 from suite import Failed, named, play, same
 
 # One address of each prefix of the random networks, and one of none.

@@ -1,7 +1,7 @@
 #!/usr/bin/env python3
 """How many rounds random networks need until each table has the least costs of now, and nothing else below 16:
 
-    tests/rounds_needed.py PROGRAM [NETWORKS]
+    tests/lab/rounds_needed.py PROGRAM [NETWORKS]
 
 PROGRAM is ripngd. Much happens in each of so many networks (100 if none is named) of 3 to 12 routers: datagrams are lost, come
 late, twice and in any order, routers restart, costs change and prefixes move. Then rounds are made, 15 seconds apart. Prints a
@@ -10,9 +10,12 @@ network needed more than 26.
 """
 import collections
 import os
+import pathlib
 import random
 import sys
 
+sys.dont_write_bytecode = True
+sys.path.append(str(pathlib.Path(__file__).resolve().parents[1] / "support"))
 from networks import Network, Owner, Port, lab, lines_of
 
 PREFIXES = ["2001:db8::/48", "2001:db8:1::/48", "2001:db8:2::/48"]

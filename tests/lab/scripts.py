@@ -2,7 +2,7 @@
 """What `lab` prints of networks, compared with a plain search of the walks in them: each metric below 16 is the cost of a walk, and rounds
 and phases leave the least costs.
 
-    tests/scripts.py PROGRAM [NAME..]      all cases, or those that have NAME in theirs
+    tests/lab/scripts.py PROGRAM [NAME..]      all cases, or those that have NAME in theirs
 """
 
 import json
@@ -11,10 +11,11 @@ import random
 import sys
 
 sys.dont_write_bytecode = True
-from networks import Network, Owner, Port, lab, lines_of, metrics_of, routes_of
+sys.path.append(str(pathlib.Path(__file__).resolve().parents[1] / "support"))
+from networks import TROUBLE, Network, Owner, lab, metrics_of, random_network, routes_of
 from suite import Failed, named, play, same
 
-EXAMPLES = pathlib.Path(__file__).resolve().parent.parent / "examples"
+EXAMPLES = pathlib.Path(__file__).resolve().parents[2] / "examples"
 
 # Two links between the first two routers, and two interfaces of the second on the link to the third.
 TWINS = """router
@@ -58,30 +59,10 @@ iface fe80::b0 4 1500 0
 cold 60000
 """
 
-# What is lost and changed before phases: the second router owns a prefix of the third from now on, and only the first and the third tell
-# what they have, of which much is lost.
-TROUBLE = """rounds 3 0 15000
-drop 2 +1 2001:db8:c::/48
-gain 1 +0 2001:db8:c::/48 3
-tell 0 +60000 0 but 0
-tell 2 +0 0 but 0 1
-"""
-
-
 def square():
     """The square of the examples, whose link between the first and the last router is dear, up to its start."""
     text = (EXAMPLES / "square.lab").read_text()
     return text[:text.index("round")]
-
-
-def random_network(seed):
-    """A network of three to five routers, with two interfaces each, on one of four links. The first and the third router own a prefix
-    each, and both own one of them."""
-    words = random.Random(seed)
-    ports = [Port(router, iface, f"fe80::{router}:{iface}", words.randint(1, 6), words.randrange(4))
-             for router in range(3 + seed % 3) for iface in range(2)]
-    owners = [Owner(0, "2001:db8::/32", "1"), Owner(2, "2001:db8::/32", "2"), Owner(2, "2001:db8:c::/48", "3")]
-    return "\n".join([*lines_of(ports, owners), "cold 0", ""])
 
 
 def all_walks(program, script, least):

@@ -2,13 +2,15 @@
 """Prefixes are independent in rounds: with some prefixes a network has the tables that it has with all, restricted to these. Tried on random
 networks, each in shares, with links that fail, costs that change and prefixes that come and go.
 
-    tests/shares.py PROGRAM [NUMBER]      so many networks, 1,000 if none is named
+    tests/lab/shares.py PROGRAM [NUMBER]      so many networks, 1,000 if none is named
 """
 
+import pathlib
 import random
 import sys
 
 sys.dont_write_bytecode = True
+sys.path.append(str(pathlib.Path(__file__).resolve().parents[1] / "support"))
 from networks import Owner, Port, lab, lines_of, routes_of
 from suite import Failed, play, same
 

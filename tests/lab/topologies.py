@@ -2,7 +2,7 @@
 """Networks out of files of other programs and of usual shapes (tools/topology.py, tools/ripnglab.py): the links that they have, what is
 refused and where, and the metrics that come of them, beside a plain search for the least costs.
 
-    tests/topologies.py PROGRAM [NAME..]      all cases, or those that have NAME in theirs
+    tests/lab/topologies.py PROGRAM [NAME..]      all cases, or those that have NAME in theirs
 """
 
 import collections
@@ -15,10 +15,11 @@ import sys
 import textwrap
 
 sys.dont_write_bytecode = True
+sys.path.append(str(pathlib.Path(__file__).resolve().parents[1] / "support"))
 from networks import Network, lab, metrics_of
 from suite import Failed, named, play, same
 
-ROOT = pathlib.Path(__file__).resolve().parent.parent
+ROOT = pathlib.Path(__file__).resolve().parents[2]
 FILES = ROOT / "tests/topologies"
 sys.path.append(str(ROOT / "tools"))
 import ripnglab

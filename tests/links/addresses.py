@@ -2,7 +2,8 @@
 
 from edges import stranger
 from least import REGULAR, least, settle
-from spaces import Bird, Ours, same, until
+from spaces import Bird, Ours, until
+from suite import same
 
 # No update of BIRD's comes by itself in the time that is waited for.
 SELDOM = 150

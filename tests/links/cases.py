@@ -1,12 +1,14 @@
 #!/usr/bin/env python3
-"""The cases of tests/links.sh: `cases.py PROGRAM [CASE..]`. They run side by side, each in name spaces of its own."""
+"""The cases of tests/links/links.sh: `cases.py PROGRAM [CASE..]`. They run side by side, each in name spaces of its own."""
 
-import concurrent.futures
+import functools
+import os
 import pathlib
 import subprocess
 import sys
-import tempfile
 
+sys.dont_write_bytecode = True
+sys.path.append(str(pathlib.Path(__file__).resolve().parents[1] / "support"))
 import addresses
 import changes
 import daily
@@ -22,7 +24,8 @@ import sniffed
 import soak
 import starts
 import trust
-from spaces import Net, Wrong, same
+from spaces import Net
+from suite import play, same
 
 
 def the_parts(net, program):
@@ -53,32 +56,18 @@ CASES += [service.the_units, package.a_package, sniffed.captured_routers, the_pa
 LONG = [soak.ten_minutes]
 
 
-def play(case, program, folder):
-    """Why a case fails, or None."""
-    try:
-        with Net(case.__name__, folder) as net:
-            case(net, program)
-    except Wrong as wrong:
-        return str(wrong)
-    except Exception as fault:  # a case that breaks is a case that fails
-        return f"{type(fault).__name__}: {fault}"
-    return None
+def in_spaces(case, program, folder):
+    """Plays a case, whose programs without a privilege come to its folder, too."""
+    os.chmod(folder, 0o755)
+    with Net(case.__name__, folder) as net:
+        case(net, program)
 
 
 def main():
     program, names = sys.argv[1], sys.argv[2:]
     chosen = [case for case in CASES + LONG if case.__name__ in names] if names else CASES
-    failed = 0
-    with tempfile.TemporaryDirectory() as folder:
-        pathlib.Path(folder).chmod(0o755)
-        with concurrent.futures.ThreadPoolExecutor(len(chosen) or 1) as pool:
-            played = {pool.submit(play, case, program, folder): case.__name__ for case in chosen}
-            for done in concurrent.futures.as_completed(played):
-                why = done.result()
-                failed += why is not None
-                print(f"ok {played[done]}" if why is None else f"FAILED {played[done]}: {why}", flush=True)
-    print(f"{len(chosen) - failed} passed, {failed} failed")
-    sys.exit(failed > 0)
+    cases = [(case.__name__, functools.partial(in_spaces, case, program)) for case in chosen]
+    sys.exit(play(cases, len(cases), names_passed=True))
 
 
 if __name__ == "__main__":

@@ -7,6 +7,8 @@ import sys
 import tempfile
 import time
 
+sys.dont_write_bytecode = True
+sys.path.append(str(pathlib.Path(__file__).resolve().parents[1] / "support"))
 from changes import routers_of
 from edges import stranger
 from spaces import Net, Ours, until

@@ -16,7 +16,8 @@ from edges import stranger
 from faults import LEARNED, OWNED, a_pair
 from least import REGULAR
 from reloads import reload
-from spaces import COMPANION, ROOT, Bird, Ours, same, until
+from spaces import COMPANION, ROOT, Bird, Ours, until
+from suite import same
 
 sys.path.insert(0, str(ROOT / "companion"))
 

@@ -7,7 +7,8 @@ import sys
 import time
 
 from least import QUICK, REGULAR, TRIGGERED, least, settle
-from spaces import COMPANION, HERE, ROOT, Bird, Ours, same, until
+from spaces import COMPANION, HERE, ROOT, Bird, Ours, until
+from suite import same
 
 # What the router refuses of each kind of stranger.
 RUBBISH = ("Short", "Ragged", "BadCommand", "BadVersion", "NotZero")

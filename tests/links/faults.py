@@ -11,7 +11,8 @@ import time
 from changes import routers_of
 from edges import AS_BY_A_UNIT
 from least import REGULAR
-from spaces import COMPANION, Bird, Ours, same, until
+from spaces import COMPANION, Bird, Ours, until
+from suite import same
 
 LEARNED, OWNED = "2001:db8:1::/48", "2001:db8:a::/48"
 # Seconds within which a router starts that waits for nothing, on a machine that does much else; and from one look at what nobody tells

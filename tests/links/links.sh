@@ -1,7 +1,7 @@
 #!/usr/bin/env bash
 # The router on real links by its companion, beside BIRD and FRR, in name spaces of the system: what only a kernel can show.
 #
-#     tests/links.sh [PROGRAM [CASE..]]        the program is bin/ripngd if none is named
+#     tests/links/links.sh [PROGRAM [CASE..]]        the program is bin/ripngd if none is named
 #
 # A line for each case, `ok NAME` or `FAILED NAME: why`, and last `N passed, M failed`. The exit status is 0 exactly where M is 0.
 # Needs root, name spaces of the network, iproute2, Python 3.11, BIRD 2 and FRR (Debian's packages iproute2, bird2 and frr): where one
@@ -10,7 +10,7 @@
 # ring under loss whose routers and companions die and are started again.
 set -u
 
-root=$(realpath "$(dirname "$0")/..")
+root=$(realpath "$(dirname "$0")/../..")
 program=$(realpath "${1:-$root/bin/ripngd}")
 [ $# -eq 0 ] || shift
 

@@ -6,7 +6,8 @@ import time
 
 from changes import routers_of
 from least import GARBAGE, REGULAR, TRIGGERED, differing, least, settle
-from spaces import INFINITY, Bird, Frr, Ours, Wrong, same, until
+from spaces import INFINITY, Bird, Frr, Ours, until
+from suite import Failed, same
 
 # Of a router on many links: how many, what it may take of a processor until all neighbors are met, in seconds, in how many seconds it is
 # watched then, and which share of a processor it may take.
@@ -105,7 +106,7 @@ def a_lossy_cable(net, program):
     def is_right():
         found = routers["o"].table()
         if low := {prefix: metric for prefix, metric in found.items() if metric < floor[prefix]}:
-            raise Wrong(f"metrics below the least: {low}")
+            raise Failed(f"metrics below the least: {low}")
         return not differing(routers, least(cables, owned))
 
     until(2 * REGULAR, lambda: f"right are not {differing(routers, least(cables, owned))}", is_right)

@@ -2,7 +2,8 @@
 
 import subprocess
 
-from spaces import ROOT, Wrong, same
+from spaces import ROOT
+from suite import Failed, same
 
 # What a shell does in a name space of mounts, with a folder for the copy and two packages: what it prints is compared.
 TRIAL = """set -e
@@ -32,7 +33,7 @@ def made(folder, program, is_unproved):
     words = ["make", "-s", "deb", f"PROGRAM={program}", f"DIST={folder}", *["UNPROVED=1"] * is_unproved]
     done = subprocess.run(words, cwd=ROOT, capture_output=True, text=True, check=False)
     if done.returncode:
-        raise Wrong(f"make deb: {done.stderr}")
+        raise Failed(f"make deb: {done.stderr}")
     return next(folder.glob("ripngd_*_amd64.deb"))
 
 
@@ -56,7 +57,7 @@ def a_package(net, program):
     words = ["unshare", "-m", "sh", "-c", TRIAL, "trial", trial, first, of_version(first, "9.9")]
     done = subprocess.run(words, capture_output=True, text=True, check=False)
     if done.returncode:
-        raise Wrong(f"the trial: {done.stderr}")
+        raise Failed(f"the trial: {done.stderr}")
     pages = [f"/usr/share/man/man8/{name}.8.gz" for name in ("frr-ripngd", "ripngd-links", "ripngd")]
     wanted = [version.strip(), "usage: ripngd-links [-h] [--no-kernel] [-d] [--unproved] CONFIG"]
     wanted += ["/usr/share/doc/ripngd/docs/lab.html", *pages, "/usr/bin/ripngd", "/usr/bin/ripngd-links", "ok links 2 stubs 1 prefixes 0"]

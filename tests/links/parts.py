@@ -1,6 +1,6 @@
 #!/usr/bin/env python3
 """Cases of the companion's parts, which need neither root nor a router: `parts.py` makes a name space of its own, of a user and of the
-network, and prints a line for each case as tests/links.sh does."""
+network, and prints a line for each case as tests/links/links.sh does."""
 
 import asyncio
 import ctypes
@@ -16,13 +16,15 @@ import time
 ROOT = pathlib.Path(__file__).resolve().parent.parent.parent
 sys.path.insert(0, str(ROOT / "companion"))
 sys.dont_write_bytecode = True
+sys.path.append(str(pathlib.Path(__file__).resolve().parents[1] / "support"))
 
 import kernel  # noqa: E402
 import pure  # noqa: E402
 import sockets  # noqa: E402
 import system  # noqa: E402
-from spaces import same, until  # noqa: E402
+from spaces import until  # noqa: E402
 from stranger import REQUEST, RESPONSE, checksum  # noqa: E402
+from suite import play, same  # noqa: E402
 
 # Of the kernel's headers.
 DETACH_FILTER, NEW_USER, NEW_NETWORK = 27, 0x10000000, 0x40000000
@@ -239,16 +241,7 @@ CASES += [devices_as_ip_says, routes_that_are_mended, *pure.CASES]
 def main():
     be_apart()
     ip("link", "set", "lo", "up")
-    failed = 0
-    for case in CASES:
-        try:
-            case()
-            print(f"ok {case.__name__}", flush=True)
-        except Exception as fault:  # a case that breaks is a case that fails
-            failed += 1
-            print(f"FAILED {case.__name__}: {type(fault).__name__}: {fault}", flush=True)
-    print(f"{len(CASES) - failed} passed, {failed} failed")
-    sys.exit(failed > 0)
+    sys.exit(play([(case.__name__, lambda folder, case=case: case()) for case in CASES], 1, names_passed=True))
 
 
 if __name__ == "__main__":

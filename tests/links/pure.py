@@ -24,7 +24,7 @@ import shape  # noqa: E402
 import table  # noqa: E402
 import watch  # noqa: E402
 from journal import Log  # noqa: E402
-from spaces import Wrong, same  # noqa: E402
+from suite import Failed, same  # noqa: E402
 
 KEYS = {"address": "fe80::1", "cost": 1, "mtu": 1500, "zone": 256, "reject": ["::/96+"], "descriptor": 5}
 
@@ -70,7 +70,7 @@ def what_a_reload_changes():
         except table.Fault as fault:
             same("what is refused", str(fault), f"{key} is changed by a restart alone")
             continue
-        raise Wrong(f"{key} is taken")
+        raise Failed(f"{key} is taken")
 
 
 def martians_are_refused():
@@ -98,7 +98,7 @@ def a_default_is_told():
     except table.Fault as fault:
         same("what contradicts", str(fault), "link[0]: default_originate is true, and announce_not has ::/0+")
         return
-    raise Wrong("both are taken")
+    raise Failed("both are taken")
 
 
 def message(kind, body):

@@ -9,7 +9,8 @@ import time
 
 from changes import STAY, is_deleted, routers_of
 from least import REGULAR, TRIGGERED, least, settle
-from spaces import COMPANION, HERE, Bird, Ours, same, until
+from spaces import COMPANION, HERE, Bird, Ours, until
+from suite import same
 
 OWNED = {"b": ["2001:db8:1::/48"], "o": ["2001:db8:2::/48"], "c": ["2001:db8:3::/48"], "d": ["2001:db8:4::/48"]}
 HERE_B, THERE_C = "2001:db8:1::1", "2001:db8:3::1"

@@ -11,7 +11,8 @@ import time
 
 from edges import is_router, stranger
 from least import REGULAR, TRIGGERED
-from spaces import COMPANION, ROOT, Bird, Ours, same, until
+from spaces import COMPANION, ROOT, Bird, Ours, until
+from suite import same
 
 LINK = '[[link]]\ndevice = "to-b"\n'
 # Tables that are refused, each with what is said of it.

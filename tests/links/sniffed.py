@@ -5,7 +5,8 @@ import shutil
 import signal
 import subprocess
 
-from spaces import Bird, Frr, same, until
+from spaces import Bird, Frr, until
+from suite import same
 
 # Of each file: what tcpdump captures at, in which space, and with which words.
 FILES = {"ethernet": ("a", ["-i", "to-b"]), "cooked": ("a", ["-i", "any", "-y", "LINUX_SLL"]), "cooked_2": ("b", ["-i", "any", "-y", "LINUX_SLL2"]),

@@ -7,7 +7,8 @@ import time
 
 from edges import is_router
 from least import REGULAR, least, settle
-from spaces import Bird, Frr, Ours, Wrong, same
+from spaces import Bird, Frr, Ours
+from suite import Failed, same
 
 # Seconds that it lasts, from one disturbance to the next, that a cable or a companion is away, and between two looks.
 LASTS, APART, AWAY, LOOK = 600, 30, 5, 1
@@ -50,7 +51,7 @@ def look(ours, floors):
     """No metric is below the least cost of the ring when it is whole: what is cut makes none less."""
     for router, floor in zip(ours, floors):
         if low := {prefix: metric for prefix, metric in router.table().items() if metric < floor[prefix]}:
-            raise Wrong(f"metrics below the least: {low}")
+            raise Failed(f"metrics below the least: {low}")
 
 
 def ten_minutes(net, program):

@@ -8,7 +8,8 @@ import re
 import shutil
 import subprocess
 import sys
-import time
+
+import suite
 
 HERE = pathlib.Path(__file__).resolve().parent
 ROOT = HERE.parent.parent
@@ -18,23 +19,9 @@ PROTOCOL = 152
 INFINITY = 16
 
 
-class Wrong(Exception):
-    """Why a case fails."""
-
-
-def same(what, given, wanted):
-    if given != wanted:
-        raise Wrong(f"{what} is {given!r} and not {wanted!r}")
-
-
 def until(seconds, what, ask):
-    """Waits until `ask` answers something true, and answers that."""
-    ends = time.monotonic() + seconds
-    while not (found := ask()):
-        if time.monotonic() > ends:
-            raise Wrong(f"not within {seconds} s: {what() if callable(what) else what}")
-        time.sleep(0.3)
-    return found
+    """Waits until `ask` answers something true, and answers that: so many seconds, which are of each case."""
+    return suite.until(what, ask, seconds, 0.3)
 
 
 class Net:
@@ -104,7 +91,7 @@ class Space:
         words = ["ip", "netns", "exec", self.full, *map(str, words)]
         done = subprocess.run(words, capture_output=True, text=True, check=False, **more)
         if check and done.returncode:
-            raise Wrong(f"{' '.join(words)}: {done.stderr.strip() or done.stdout.strip()}")
+            raise suite.Failed(f"{' '.join(words)}: {done.stderr.strip() or done.stdout.strip()}")
         return done.stdout
 
     def ip(self, *words):

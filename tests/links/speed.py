@@ -7,6 +7,8 @@ import sys
 import tempfile
 import time
 
+sys.dont_write_bytecode = True
+sys.path.append(str(pathlib.Path(__file__).resolve().parents[1] / "support"))
 from spaces import Bird, Net, Ours, until
 
 # Waits for the first datagram to port 521 that comes to a device, and prints when it came.

@@ -5,7 +5,8 @@ import time
 
 from edges import stranger
 from least import QUICK, REGULAR, least, settle
-from spaces import HERE, Bird, Frr, Ours, same, until
+from spaces import HERE, Bird, Frr, Ours, until
+from suite import same
 
 # Seconds from one regular update of a neighbor to the next, so that only a question brings its table.
 SELDOM = 150

@@ -9,7 +9,8 @@ import time
 from changes import kill_router, routers_of
 from edges import stranger
 from least import REGULAR, TRIGGERED, settle
-from spaces import HERE, Bird, Frr, Ours, same, until
+from spaces import HERE, Bird, Frr, Ours, until
+from suite import same
 
 SELDOM = 150
 OWNED = {"b": "2001:db8:1::/48", "o": "2001:db8:2::/48", "f": "2001:db8:3::/48"}

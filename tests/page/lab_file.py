@@ -2,7 +2,7 @@
 """The module in docs/lab.html beside the native program: traces of all examples and lessons, of a long script, and of 300 scripts made by
 chance, byte for byte, by node and in each browser that is there.
 
-    tests/lab_file.py PROGRAM [NAME..]      all cases, or those that have NAME in theirs
+    tests/page/lab_file.py PROGRAM [NAME..]      all cases, or those that have NAME in theirs
 """
 
 import pathlib
@@ -13,11 +13,12 @@ import sys
 import tempfile
 
 sys.dont_write_bytecode = True
+sys.path.append(str(pathlib.Path(__file__).resolve().parents[1] / "support"))
 import browser
-from scripts import random_network
+from networks import random_network
 from suite import Failed, named, play, same
 
-ROOT = pathlib.Path(__file__).resolve().parent.parent
+ROOT = pathlib.Path(__file__).resolve().parents[2]
 FILE = ROOT / "docs/lab.html"
 SCRIPTS, BATCH = 300, 30
 LIE = "0201000020010db800000000000000000000000000012001"
@@ -97,7 +98,7 @@ def by_node(native, folder):
     paths = [pathlib.Path(folder, f"{number}.lab") for number in range(len(native))]
     for path, (_, script, _, _) in zip(paths, native):
         path.write_bytes(script)
-    ran = subprocess.run(["node", ROOT / "tests/lab_file.mjs", FILE, *paths], capture_output=True, text=True)
+    ran = subprocess.run(["node", ROOT / "tests/page/lab_file.mjs", FILE, *paths], capture_output=True, text=True)
     same("what node says of it", ran.stderr, "")
     for path, said, (name, _, wanted, status) in zip(paths, ran.stdout.split(), native, strict=True):
         compared(name, pathlib.Path(f"{path}.trace").read_bytes(), wanted)

@@ -1,7 +1,8 @@
-"""What a newcomer does with the laboratory's page, at each width, by clicks alone and by keys alone, for tests/visits.py."""
+"""What a newcomer does with the laboratory's page, at each width, by clicks alone and by keys alone, for tests/page/visits.py."""
 import json
 
-from seen import IS_FOCUSED, METRICS, ROUTE, WIDE, same, text_of
+from seen import IS_FOCUSED, METRICS, ROUTE, WIDE, text_of
+from suite import Failed, same
 
 # The widths, each with its height. By clicks `phone` does it at 500 pixels, and `newcomer` at 1,400.
 HEIGHTS = {500: 900, 900: 900, 1400: 900, 1920: 1080}
@@ -81,4 +82,4 @@ class Newcomer:
             self.page.press(key, modifier)
             if self.page.value(expression):
                 return
-        raise AssertionError(f'no key comes to {what!r}, but to {self.page.value("document.activeElement.outerHTML.slice(0, 90)")!r}')
+        raise Failed(f'no key comes to {what!r}, but to {self.page.value("document.activeElement.outerHTML.slice(0, 90)")!r}')

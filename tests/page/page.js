@@ -1,4 +1,4 @@
-// Put into the page by tests/page.py, with tests/page_class.js in it, behind its own script: does what a reader does, by the play that the
+// Put into the page by tests/page/page.py, with tests/page/page_class.js in it, behind its own script: does what a reader does, by the play that the
 // address names (?PLAY), and reports what the page shows, a line each.
 'use strict';
 
@@ -304,7 +304,7 @@
     tell(alone.querySelectorAll('.router').length, alone.querySelector('.wire').getAttribute('stroke').startsWith('rgb'));
   }
 
-  // What a class does, of tests/page_class.js, comes here.
+  // What a class does, of tests/page/page_class.js, comes here.
 
   const script = document.getElementById('script');
   const plays = { film: playFilm, asked: showAsked, where: showWhere, refusals: showRefusals, edit, callOffRuns, sayFaults, keepDrafts, refuseClicks, undoAll,

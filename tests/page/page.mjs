@@ -1,6 +1,6 @@
 // The page's modules without a browser: random scripts, run by the program, against what it prints and a plain computation.
 //
-//     node tests/page.mjs PROGRAM [SCRIPTS [SEED [NAME..]]]     all cases, or those that have a NAME in theirs
+//     node tests/page/page.mjs PROGRAM [SCRIPTS [SEED [NAME..]]]     all cases, or those that have a NAME in theirs
 //
 // A line for each case, `ok NAME` or `FAILED NAME: why`, and last `N passed, M failed`; the exit status is 0 exactly where M is 0.
 // Only what a module exports is called; costs, owners and least costs are computed here anew, from the script's lines alone, and the
@@ -10,18 +10,18 @@ import { mkdtempSync, readFileSync, readdirSync, rmSync, writeFileSync } from 'n
 import { tmpdir } from 'node:os';
 import { join } from 'node:path';
 import { fileURLToPath } from 'node:url';
-import { readTrace, named, nextStop, onTheirWay } from '../page/src/trace.js';
-import { leastCosts, metricRuns, tallyAll, walkOf } from '../page/src/walks.js';
-import { decode, oneResponse, wholeRequest } from '../page/src/datagrams.js';
-import { SHAPES, inserted, joined, namesOf, networkScript, withName } from '../page/src/building.js';
-import { captionsOf, runnable } from '../page/src/lessons.js';
-import { fitted, layOut, wiringOf } from '../page/src/layout.js';
-import { drawingOf } from '../page/src/drawing.js';
-import { timelineOf } from '../page/src/timeline.js';
-import { detailOf, eventOf } from '../page/src/detail.js';
-import { matrixOf, printed, tablesOf } from '../page/src/tables.js';
-import { quizOf } from '../page/src/quiz.js';
-import { LINES, describe, hintOf } from '../page/src/texts.js';
+import { readTrace, named, nextStop, onTheirWay } from '../../page/src/trace.js';
+import { leastCosts, metricRuns, tallyAll, walkOf } from '../../page/src/walks.js';
+import { decode, oneResponse, wholeRequest } from '../../page/src/datagrams.js';
+import { SHAPES, inserted, joined, namesOf, networkScript, withName } from '../../page/src/building.js';
+import { captionsOf, runnable } from '../../page/src/lessons.js';
+import { fitted, layOut, wiringOf } from '../../page/src/layout.js';
+import { drawingOf } from '../../page/src/drawing.js';
+import { timelineOf } from '../../page/src/timeline.js';
+import { detailOf, eventOf } from '../../page/src/detail.js';
+import { matrixOf, printed, tablesOf } from '../../page/src/tables.js';
+import { quizOf } from '../../page/src/quiz.js';
+import { LINES, describe, hintOf } from '../../page/src/texts.js';
 import { lessonCases } from './page_lessons.mjs';
 import { checkHealed, checkPackets, packetCases } from './page_packets.mjs';
 import { removalCases } from './page_removing.mjs';
@@ -38,7 +38,7 @@ import { wordCases } from './page_words.mjs';
 import { saidCases } from './page_said.mjs';
 
 const [program, scripts = '30', seed = '1', ...names] = process.argv.slice(2), folder = mkdtempSync(join(tmpdir(), 'page-'));
-const sources = fileURLToPath(new URL('../page/src', import.meta.url));
+const sources = fileURLToPath(new URL('../../page/src', import.meta.url));
 let random = Number(seed);
 const below = count => { random = (random * 1103515245 + 12345) % 2147483648; return Math.floor(random / 65536) % count; };
 const pick = list => list[below(list.length)];
@@ -286,7 +286,7 @@ const CASES = {
   },
   // The card has each line of docs/SCRIPTS.md, by its first word, and no other.
   'the card of lines': () => {
-    const page = readFileSync(fileURLToPath(new URL('../docs/SCRIPTS.md', import.meta.url)), 'utf8').split('\n');
+    const page = readFileSync(fileURLToPath(new URL('../../docs/SCRIPTS.md', import.meta.url)), 'utf8').split('\n');
     const rows = page.slice(page.indexOf('| Line | Meaning |') + 2).join('\n').split('\n\n')[0].split('\n');
     const words = rows.flatMap(row => [...row.split(' | ')[0].matchAll(/`(\w+)/g)].map(([, word]) => word));
     const mine = LINES.map(([form]) => form.split(' ')[0]);
@@ -343,7 +343,7 @@ function attempt(name, check) {
 for (const [name, check] of Object.entries(CASES)) attempt(name, check);
 // Each example and lesson: every pane at every step, and each metric is the cost of a walk.
 attempt('examples and lessons', () => {
-  const folders = ['../examples/', '../examples/lessons/', '../examples/exercises/'].map(path => fileURLToPath(new URL(path, import.meta.url)));
+  const folders = ['../../examples/', '../../examples/lessons/', '../../examples/exercises/'].map(path => fileURLToPath(new URL(path, import.meta.url)));
   const files = folders.flatMap(path => readdirSync(path).filter(file => file.endsWith('.lab')).map(file => path + file));
   for (const file of files) {
     const script = readFileSync(file, 'utf8'), trace = readTrace(ran(script, '--trace'), script);

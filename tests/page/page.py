@@ -1,9 +1,9 @@
 #!/usr/bin/env python3
 """The laboratory's page, docs/lab.html, in a browser, beside what the program prints: each example stepped to its end, what a reader does
-by clicks, keys and files (tests/page.js), and visits by real clicks and keys (tests/visits.py).
+by clicks, keys and files (tests/page/page.js), and visits by real clicks and keys (tests/page/visits.py).
 
-    tests/page.py PROGRAM chromium|firefox [NAME..]      all cases, or those that have NAME in theirs
-    tests/page.py PROGRAM modules                        the page's modules on random scripts, by node and tests/page.mjs
+    tests/page/page.py PROGRAM chromium|firefox [NAME..]      all cases, or those that have NAME in theirs
+    tests/page/page.py PROGRAM modules                        the page's modules on random scripts, by node and tests/page/page.mjs
 
 Without the browser, or node, a line `skipped: ..` says what was not tried.
 """
@@ -19,13 +19,14 @@ import subprocess
 import sys
 
 sys.dont_write_bytecode = True
+sys.path.append(str(pathlib.Path(__file__).resolve().parents[1] / "support"))
 import browser
 import visits
 from page_class import ClassCases, example
 from seen import FIND
 from suite import Failed, named, play, same
 
-ROOT = pathlib.Path(__file__).resolve().parent.parent
+ROOT = pathlib.Path(__file__).resolve().parents[2]
 FILE = ROOT / "docs/lab.html"
 sys.path.insert(0, str(ROOT / "page"))
 import film  # noqa: E402
@@ -71,7 +72,7 @@ drop 1 350000 ::/0
 
 
 LINE = example("line")
-PLACE = "  // What a class does, of tests/page_class.js, comes here.\n"
+PLACE = "  // What a class does, of tests/page/page_class.js, comes here.\n"
 UPDATES = {"regular": "regular update", "triggered": "triggered update", "held": "a triggered update waits", None: "its timer, nothing is due"}
 
 
@@ -82,7 +83,7 @@ def ticked(record):
 
 
 class Page(ClassCases):
-    """The page with tests/page.js in it, in browsers that are open, and the program that it is compared with."""
+    """The page with tests/page/page.js in it, in browsers that are open, and the program that it is compared with."""
 
     def __init__(self, program, kind):
         self.program, self.kind = program, kind
@@ -126,7 +127,7 @@ class Page(ClassCases):
             page = film.film(page, "own.lab", script)
         page, policies = re.subn(r'<meta http-equiv="Content-Security-Policy".*?>\n', "", page, flags=re.DOTALL)
         same("how many policies the page has", policies, 1)
-        driver, plays = ((ROOT / "tests" / name).read_text() for name in ("page.js", "page_class.js"))
+        driver, plays = ((ROOT / "tests/page" / name).read_text() for name in ("page.js", "page_class.js"))
         driver = driver.replace(PLACE, plays, 1)
         path = os.path.join(folder, "played.html")
         pathlib.Path(path).write_text(page.replace("</body>", f"<script>\n{driver}</script>\n</body>"))
@@ -308,7 +309,7 @@ def modules(program):
     if shutil.which("node") is None:
         print("skipped: there is no node, so no module of the page is run on random scripts\n0 passed, 0 failed")
         return 0
-    return subprocess.run(["node", ROOT / "tests/page.mjs", program]).returncode
+    return subprocess.run(["node", ROOT / "tests/page/page.mjs", program]).returncode
 
 
 def main(program, kind, *names):

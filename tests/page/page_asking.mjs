@@ -1,14 +1,14 @@
-// Routers that ask by themselves, as the page shows them, for tests/page.mjs: why, on the envelope too, and the same without.
+// Routers that ask by themselves, as the page shows them, for tests/page/page.mjs: why, on the envelope too, and the same without.
 import { readFileSync } from 'node:fs';
 import { fileURLToPath } from 'node:url';
-import { askingText, hasAsking, stepBeside, withoutAsking } from '../page/src/asking.js';
-import { detailOf, eventOf } from '../page/src/detail.js';
-import { layOut, wiringOf } from '../page/src/layout.js';
-import { drawingOf } from '../page/src/drawing.js';
-import { veiled } from '../page/src/veiling.js';
+import { askingText, hasAsking, stepBeside, withoutAsking } from '../../page/src/asking.js';
+import { detailOf, eventOf } from '../../page/src/detail.js';
+import { layOut, wiringOf } from '../../page/src/layout.js';
+import { drawingOf } from '../../page/src/drawing.js';
+import { veiled } from '../../page/src/veiling.js';
 
 export function askingCases({ ran, same, traceOf, three }) {
-  const LESSON = readFileSync(fileURLToPath(new URL('../examples/lessons/31-asking.lab', import.meta.url)), 'utf8');
+  const LESSON = readFileSync(fileURLToPath(new URL('../../examples/lessons/31-asking.lab', import.meta.url)), 'utf8');
   const plain = ({ text }) => text.replace(/<[^>]*>/g, '').replace(/\s+/g, ' ').trim();
   const view = (trace, step, more = {}) => ({ trace, step, wiring: wiringOf(trace), typed: {}, place: 'end', chosen: null, ...more });
   const titles = (trace, step, more = {}) => {

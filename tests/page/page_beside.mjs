@@ -1,13 +1,13 @@
-// What stands beside the network, for tests/page.mjs: the time diagram, other versions of the network, hosts that are no routers,
+// What stands beside the network, for tests/page/page.mjs: the time diagram, other versions of the network, hosts that are no routers,
 // next hops and packets that run. What is expected is worked out by hand.
-import { layOut, wiringOf } from '../page/src/layout.js';
-import { drawingOf } from '../page/src/drawing.js';
-import { timelineOf, windowOf } from '../page/src/timeline.js';
-import { outsidersIn } from '../page/src/outsiders.js';
-import { runOf, runnersOf } from '../page/src/running.js';
-import { horizonsOf, triggeredLines, versionsText, withLinesOf, withTriggered, withoutTriggered } from '../page/src/versions.js';
-import { ACTIONS } from '../page/src/acting.js';
-import { networkScript } from '../page/src/building.js';
+import { layOut, wiringOf } from '../../page/src/layout.js';
+import { drawingOf } from '../../page/src/drawing.js';
+import { timelineOf, windowOf } from '../../page/src/timeline.js';
+import { outsidersIn } from '../../page/src/outsiders.js';
+import { runOf, runnersOf } from '../../page/src/running.js';
+import { horizonsOf, triggeredLines, versionsText, withLinesOf, withTriggered, withoutTriggered } from '../../page/src/versions.js';
+import { ACTIONS } from '../../page/src/acting.js';
+import { networkScript } from '../../page/src/building.js';
 
 const PREFIX = '2001:db8::/32';
 

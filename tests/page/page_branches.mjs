@@ -1,7 +1,7 @@
-// Branches of a script, for tests/page.mjs: what an act in the middle sets aside, and what comes back.
-import { begunAt, branched, branchesOf, switched, withoutBranch } from '../page/src/branching.js';
-import { inserted, ownLines, withPlaces } from '../page/src/building.js';
-import { captionsOf } from '../page/src/lessons.js';
+// Branches of a script, for tests/page/page.mjs: what an act in the middle sets aside, and what comes back.
+import { begunAt, branched, branchesOf, switched, withoutBranch } from '../../page/src/branching.js';
+import { inserted, ownLines, withPlaces } from '../../page/src/building.js';
+import { captionsOf } from '../../page/src/lessons.js';
 
 export function branchCases({ same, traceOf, three }) {
   const stateOf = ({ routers }) => routers.map(({ table, timers, interfaces, prefixes }) => [[...table.values()].map(({ route }) => route), timers, interfaces, prefixes]);

@@ -1,4 +1,4 @@
-// What a teacher, a class and a newcomer do: put into tests/page.js by tests/page.py.
+// What a teacher, a class and a newcomer do: put into tests/page/page.js by tests/page/page.py.
 
 // ---- Rounds, as they are seen ----
 const chosenEvent = text => all('#events button').find(button => button.textContent.includes(text));

@@ -1,10 +1,10 @@
-"""What a teacher, a class and a newcomer do with the page, for tests/page.py: each case plays one of tests/page_class.js."""
+"""What a teacher, a class and a newcomer do with the page, for tests/page/page.py: each case plays one of tests/page/page_class.js."""
 
 import pathlib
 
 from suite import same
 
-ROOT = pathlib.Path(__file__).resolve().parent.parent
+ROOT = pathlib.Path(__file__).resolve().parents[2]
 
 
 def example(name):

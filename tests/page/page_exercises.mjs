@@ -1,22 +1,22 @@
-// Exercises: that nothing tells what a blank asks for, tries, equations, and other numbers, for tests/page.mjs.
+// Exercises: that nothing tells what a blank asks for, tries, equations, and other numbers, for tests/page/page.mjs.
 import { mkdtempSync, readFileSync, readdirSync, rmSync, writeFileSync } from 'node:fs';
 import { tmpdir } from 'node:os';
 import { join } from 'node:path';
 import { fileURLToPath } from 'node:url';
-import { named, readTrace } from '../page/src/trace.js';
-import { entriesOf } from '../page/src/datagrams.js';
-import { checksOf, expectationsOf, isExercise, runnable, toldInQuiz } from '../page/src/lessons.js';
-import { answered, blanked, equationOf, progressOf, solutionOf, triesOf } from '../page/src/exercises.js';
-import { quizzed, veiled } from '../page/src/veiling.js';
-import { varied } from '../page/src/varying.js';
-import { layOut, wiringOf } from '../page/src/layout.js';
-import { drawingOf } from '../page/src/drawing.js';
-import { detailOf, eventOf, openAt } from '../page/src/detail.js';
-import { matrixOf, printed, tablesOf, tallyOf } from '../page/src/tables.js';
-import { verdictOf } from '../page/src/forwarding.js';
-import { timelineOf } from '../page/src/timeline.js';
+import { named, readTrace } from '../../page/src/trace.js';
+import { entriesOf } from '../../page/src/datagrams.js';
+import { checksOf, expectationsOf, isExercise, runnable, toldInQuiz } from '../../page/src/lessons.js';
+import { answered, blanked, equationOf, progressOf, solutionOf, triesOf } from '../../page/src/exercises.js';
+import { quizzed, veiled } from '../../page/src/veiling.js';
+import { varied } from '../../page/src/varying.js';
+import { layOut, wiringOf } from '../../page/src/layout.js';
+import { drawingOf } from '../../page/src/drawing.js';
+import { detailOf, eventOf, openAt } from '../../page/src/detail.js';
+import { matrixOf, printed, tablesOf, tallyOf } from '../../page/src/tables.js';
+import { verdictOf } from '../../page/src/forwarding.js';
+import { timelineOf } from '../../page/src/timeline.js';
 
-const FOLDER = fileURLToPath(new URL('../examples/exercises/', import.meta.url));
+const FOLDER = fileURLToPath(new URL('../../examples/exercises/', import.meta.url));
 const exercises = readdirSync(FOLDER).map(file => [file, readFileSync(`${FOLDER}${file}`, 'utf8')]);
 // A metric that no router has: where a page shows it, it has read what is veiled.
 const PLANTED = 231;

@@ -1,18 +1,18 @@
-// Lessons, losses, and what is shown of them, for tests/page.mjs, worked out by hand.
+// Lessons, losses, and what is shown of them, for tests/page/page.mjs, worked out by hand.
 import { readFileSync, readdirSync } from 'node:fs';
 import { fileURLToPath } from 'node:url';
-import { nextStop } from '../page/src/trace.js';
-import { updatesOf } from '../page/src/walks.js';
-import { covers, oneResponse } from '../page/src/datagrams.js';
-import { SHAPES, inserted, joined, networkScript, placesOf, withPlaces } from '../page/src/building.js';
-import { captionsOf, checksOf, expectationsOf, metricIn, questionIn, withAnswer } from '../page/src/lessons.js';
-import { losing } from '../page/src/losing.js';
-import { keysOf, renumbered } from '../page/src/numbering.js';
-import { fitted, layOut, linksApart, wiringOf } from '../page/src/layout.js';
-import { drawingOf } from '../page/src/drawing.js';
-import { detailOf } from '../page/src/detail.js';
-import { guessed, markGuess, reveal, scoreOf } from '../page/src/quiz.js';
-import { describe } from '../page/src/texts.js';
+import { nextStop } from '../../page/src/trace.js';
+import { updatesOf } from '../../page/src/walks.js';
+import { covers, oneResponse } from '../../page/src/datagrams.js';
+import { SHAPES, inserted, joined, networkScript, placesOf, withPlaces } from '../../page/src/building.js';
+import { captionsOf, checksOf, expectationsOf, metricIn, questionIn, withAnswer } from '../../page/src/lessons.js';
+import { losing } from '../../page/src/losing.js';
+import { keysOf, renumbered } from '../../page/src/numbering.js';
+import { fitted, layOut, linksApart, wiringOf } from '../../page/src/layout.js';
+import { drawingOf } from '../../page/src/drawing.js';
+import { detailOf } from '../../page/src/detail.js';
+import { guessed, markGuess, reveal, scoreOf } from '../../page/src/quiz.js';
+import { describe } from '../../page/src/texts.js';
 
 const metricsAt = (trace, step = trace.steps.length - 1) => trace.steps[step].routers.map(({ table }) => table.get('2001:db8::/32')?.route.metric ?? null);
 
@@ -30,7 +30,7 @@ export function lessonCases({ ran, same, traceOf, three }) {
   return {
     // A blank that is not filled in is no line of the program; with the answers an exercise holds, and with any other it does not.
     exercises: () => {
-      const folder = fileURLToPath(new URL('../examples/exercises/', import.meta.url)), files = readdirSync(folder);
+      const folder = fileURLToPath(new URL('../../examples/exercises/', import.meta.url)), files = readdirSync(folder);
       same('them', files.map(file => file.replace('.lab', '')).sort(), Object.keys(ANSWERS).sort());
       for (const [name, answers] of Object.entries(ANSWERS)) {
         const script = readFileSync(`${folder}${name}.lab`, 'utf8'), blanks = expectationsOf(script), words = answers.split(' ');

@@ -1,15 +1,15 @@
-// Networks that are made, for tests/page.mjs: from lists of links and GraphML, what stays where it is as they grow, and large ones.
-import { layOut, isDrawn, keptSpots, notDrawn, fitted, wiringOf } from '../page/src/layout.js';
-import { networkFrom, namesFor } from '../page/src/edges.js';
-import { joined, mostOf, namesOf, networkScript, SHAPES } from '../page/src/building.js';
-import { without } from '../page/src/removing.js';
-import { matrixOf } from '../page/src/tables.js';
-import { verdictOf } from '../page/src/forwarding.js';
-import { minutesOf, readTrace } from '../page/src/trace.js';
-import { begunAt, branched } from '../page/src/branching.js';
-import { losing } from '../page/src/losing.js';
-import { passingsOf } from '../page/src/losses.js';
-import { describe } from '../page/src/texts.js';
+// Networks that are made, for tests/page/page.mjs: from lists of links and GraphML, what stays where it is as they grow, and large ones.
+import { layOut, isDrawn, keptSpots, notDrawn, fitted, wiringOf } from '../../page/src/layout.js';
+import { networkFrom, namesFor } from '../../page/src/edges.js';
+import { joined, mostOf, namesOf, networkScript, SHAPES } from '../../page/src/building.js';
+import { without } from '../../page/src/removing.js';
+import { matrixOf } from '../../page/src/tables.js';
+import { verdictOf } from '../../page/src/forwarding.js';
+import { minutesOf, readTrace } from '../../page/src/trace.js';
+import { begunAt, branched } from '../../page/src/branching.js';
+import { losing } from '../../page/src/losing.js';
+import { passingsOf } from '../../page/src/losses.js';
+import { describe } from '../../page/src/texts.js';
 
 // As NetworkX writes it.
 const GRAPHML = `<?xml version='1.0' encoding='utf-8'?>

@@ -1,17 +1,17 @@
-// Where packets go, for tests/page.mjs: ways that are worked out by hand, and a plain computation over the lines of `print`.
+// Where packets go, for tests/page/page.mjs: ways that are worked out by hand, and a plain computation over the lines of `print`.
 import { readFileSync } from 'node:fs';
 import { fileURLToPath } from 'node:url';
-import { named, prefixInView } from '../page/src/trace.js';
-import { pathOf, targetIn, waysOf } from '../page/src/packets.js';
-import { joined, networkScript } from '../page/src/building.js';
-import { oneResponse } from '../page/src/datagrams.js';
-import { layOut, wiringOf } from '../page/src/layout.js';
-import { drawingOf } from '../page/src/drawing.js';
-import { detailOf } from '../page/src/detail.js';
-import { printed } from '../page/src/tables.js';
+import { named, prefixInView } from '../../page/src/trace.js';
+import { pathOf, targetIn, waysOf } from '../../page/src/packets.js';
+import { joined, networkScript } from '../../page/src/building.js';
+import { oneResponse } from '../../page/src/datagrams.js';
+import { layOut, wiringOf } from '../../page/src/layout.js';
+import { drawingOf } from '../../page/src/drawing.js';
+import { detailOf } from '../../page/src/detail.js';
+import { printed } from '../../page/src/tables.js';
 
 const PREFIX = '2001:db8::/32';
-const read = name => readFileSync(fileURLToPath(new URL(`../examples/${name}.lab`, import.meta.url)), 'utf8');
+const read = name => readFileSync(fileURLToPath(new URL(`../../examples/${name}.lab`, import.meta.url)), 'utf8');
 
 // `three` is a line of three routers, of which R0 owns the prefix.
 export function packetCases({ same, traceOf, three }) {

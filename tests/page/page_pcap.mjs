@@ -1,10 +1,10 @@
-// The capture that the page saves, for tests/page.mjs: its bytes are those that the program writes for the same script.
+// The capture that the page saves, for tests/page/page.mjs: its bytes are those that the program writes for the same script.
 import { mkdtempSync, readFileSync, readdirSync, rmSync } from 'node:fs';
 import { tmpdir } from 'node:os';
 import { join } from 'node:path';
 import { fileURLToPath } from 'node:url';
-import { runnable } from '../page/src/lessons.js';
-import { captureOf } from '../page/src/pcap.js';
+import { runnable } from '../../page/src/lessons.js';
+import { captureOf } from '../../page/src/pcap.js';
 
 // Asks, of which one is answered, and strangers that are refused: one with an odd number of bytes, one with none. Two lines of lost datagrams,
 // a liar, and a router without poisoned reverse: in each of two rounds a sends back on link 7 what it has of there, to R0 and to b.
@@ -66,7 +66,7 @@ export function pcapCases({ ran, same, traceOf }) {
   }
   return {
     'captures of examples, lessons and exercises': () => inFolder(folder => {
-      const folders = ['../examples/', '../examples/lessons/', '../examples/exercises/'].map(path => fileURLToPath(new URL(path, import.meta.url)));
+      const folders = ['../../examples/', '../../examples/lessons/', '../../examples/exercises/'].map(path => fileURLToPath(new URL(path, import.meta.url)));
       const files = folders.flatMap(path => readdirSync(path).filter(file => file.endsWith('.lab')).map(file => path + file));
       const bytes = files.reduce((sum, file) => sum + compare(file, readFileSync(file, 'utf8'), folder).bytes, 0);
       return `: ${files.length} of them, ${bytes} bytes`;

@@ -1,10 +1,10 @@
-// Where things stand in the drawing, for tests/page.mjs: no text is covered.
+// Where things stand in the drawing, for tests/page/page.mjs: no text is covered.
 import { readFileSync, readdirSync } from 'node:fs';
 import { fileURLToPath } from 'node:url';
-import { layOut, wiringOf } from '../page/src/layout.js';
-import { placesOf, networkScript } from '../page/src/building.js';
-import { drawingOf } from '../page/src/drawing.js';
-import { readTrace } from '../page/src/trace.js';
+import { layOut, wiringOf } from '../../page/src/layout.js';
+import { placesOf, networkScript } from '../../page/src/building.js';
+import { drawingOf } from '../../page/src/drawing.js';
+import { readTrace } from '../../page/src/trace.js';
 
 // Panes as they are at 500, 900 and 1,400 pixels, and on a projector.
 const PANES = [[{ width: 485, height: 468 }, false], [{ width: 885, height: 468 }, false], [{ width: 520, height: 410 }, false],
@@ -54,7 +54,7 @@ export function placingCases({ same, traceOf }) {
     return [...new Set(faults)];
   };
   const of = folder => {
-    const path = fileURLToPath(new URL(`../examples/${folder}`, import.meta.url));
+    const path = fileURLToPath(new URL(`../../examples/${folder}`, import.meta.url));
     return readdirSync(path).filter(name => name.endsWith('.lab')).map(name => [name, readFileSync(path + name, 'utf8')]);
   };
   const scripts = [...of(''), ...of('lessons/'), ...of('exercises/')];

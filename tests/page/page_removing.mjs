@@ -1,11 +1,11 @@
-// Links and routers that are removed from scripts, for tests/page.mjs.
+// Links and routers that are removed from scripts, for tests/page/page.mjs.
 import { readFileSync, readdirSync } from 'node:fs';
 import { fileURLToPath } from 'node:url';
-import { keysOf } from '../page/src/numbering.js';
-import { NAMES_AT, settling, without } from '../page/src/removing.js';
-import { LINES } from '../page/src/texts.js';
-import { captionsOf } from '../page/src/lessons.js';
-import { linkIn, networkScript, placesOf, withLink } from '../page/src/building.js';
+import { keysOf } from '../../page/src/numbering.js';
+import { NAMES_AT, settling, without } from '../../page/src/removing.js';
+import { LINES } from '../../page/src/texts.js';
+import { captionsOf } from '../../page/src/lessons.js';
+import { linkIn, networkScript, placesOf, withLink } from '../../page/src/building.js';
 
 export function removalCases({ same, traceOf, three }) {
   const metricsOf = trace => trace.steps.at(-1).routers.map(({ table }) => table.get('2001:db8::/32')?.route.metric ?? null);
@@ -72,7 +72,7 @@ export function removalCases({ same, traceOf, three }) {
     // Whatever is removed from an example or a lesson, what is left runs to its end, but for a line that it refuses itself.
     'examples and lessons with something less': () => {
       let count = 0;
-      for (const folder of ['../examples/', '../examples/lessons/'].map(path => fileURLToPath(new URL(path, import.meta.url)))) {
+      for (const folder of ['../../examples/', '../../examples/lessons/'].map(path => fileURLToPath(new URL(path, import.meta.url)))) {
         for (const file of readdirSync(folder).filter(name => name.endsWith('.lab'))) {
           const script = readFileSync(folder + file, 'utf8'), trace = traceOf(script);
           if (trace.steps.length > 400) continue;

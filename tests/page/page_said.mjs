@@ -1,16 +1,16 @@
-// Words and sizes of what is said, for tests/page.mjs, by hand: names in captions, all metrics between two steps, long prefixes, times, and
+// Words and sizes of what is said, for tests/page/page.mjs, by hand: names in captions, all metrics between two steps, long prefixes, times, and
 // what can be done with a link that is out.
 import { readFileSync } from 'node:fs';
 import { fileURLToPath } from 'node:url';
-import { withDrawnNames } from '../page/src/lessons.js';
-import { networkScript } from '../page/src/building.js';
-import { layOut, wiringOf } from '../page/src/layout.js';
-import { drawingOf } from '../page/src/drawing.js';
-import { detailOf } from '../page/src/detail.js';
-import { shortened, tablesOf } from '../page/src/tables.js';
-import { describe } from '../page/src/texts.js';
+import { withDrawnNames } from '../../page/src/lessons.js';
+import { networkScript } from '../../page/src/building.js';
+import { layOut, wiringOf } from '../../page/src/layout.js';
+import { drawingOf } from '../../page/src/drawing.js';
+import { detailOf } from '../../page/src/detail.js';
+import { shortened, tablesOf } from '../../page/src/tables.js';
+import { describe } from '../../page/src/texts.js';
 
-const COURSE = readFileSync(fileURLToPath(new URL('../examples/lessons/course.txt', import.meta.url)), 'utf8');
+const COURSE = readFileSync(fileURLToPath(new URL('../../examples/lessons/course.txt', import.meta.url)), 'utf8');
 
 export function saidCases({ same, traceOf, three }) {
   const plain = ({ text }) => text.replace(/<[^>]*>/g, ' ').replace(/\s+/g, ' ').trim();

@@ -1,16 +1,16 @@
-// What the page shows, for tests/page.mjs: numbers and words that could mislead.
-import { filterOf } from '../page/src/filtering.js';
-import { offersOf } from '../page/src/walks.js';
-import { layOut, wiringOf } from '../page/src/layout.js';
-import { drawingOf } from '../page/src/drawing.js';
-import { detailOf, eventOf, openAt } from '../page/src/detail.js';
-import { matrixOf, tablesOf, tallyOf } from '../page/src/tables.js';
-import { checksOf, expectationsOf, plainLines, withAnswer } from '../page/src/lessons.js';
-import { quizzed, veiled } from '../page/src/veiling.js';
-import { joined, networkScript } from '../page/src/building.js';
-import { oneResponse } from '../page/src/datagrams.js';
-import { LINES } from '../page/src/texts.js';
-import { axisOf } from '../page/src/plot.js';
+// What the page shows, for tests/page/page.mjs: numbers and words that could mislead.
+import { filterOf } from '../../page/src/filtering.js';
+import { offersOf } from '../../page/src/walks.js';
+import { layOut, wiringOf } from '../../page/src/layout.js';
+import { drawingOf } from '../../page/src/drawing.js';
+import { detailOf, eventOf, openAt } from '../../page/src/detail.js';
+import { matrixOf, tablesOf, tallyOf } from '../../page/src/tables.js';
+import { checksOf, expectationsOf, plainLines, withAnswer } from '../../page/src/lessons.js';
+import { quizzed, veiled } from '../../page/src/veiling.js';
+import { joined, networkScript } from '../../page/src/building.js';
+import { oneResponse } from '../../page/src/datagrams.js';
+import { LINES } from '../../page/src/texts.js';
+import { axisOf } from '../../page/src/plot.js';
 
 export function shownCases({ same, traceOf, three }) {
   const drawn = (trace, more = {}) => {

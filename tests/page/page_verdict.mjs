@@ -1,9 +1,9 @@
-// What the page says first of a step, and what it keeps to itself while a blank is open, for tests/page.mjs, by hand.
-import { packetDetail, verdictOf } from '../page/src/forwarding.js';
-import { tablesOf, tallyOf } from '../page/src/tables.js';
-import { offersOf } from '../page/src/walks.js';
-import { veiled } from '../page/src/veiling.js';
-import { checksOf, captionsOf, expectationsOf, withAnswerApart } from '../page/src/lessons.js';
+// What the page says first of a step, and what it keeps to itself while a blank is open, for tests/page/page.mjs, by hand.
+import { packetDetail, verdictOf } from '../../page/src/forwarding.js';
+import { tablesOf, tallyOf } from '../../page/src/tables.js';
+import { offersOf } from '../../page/src/walks.js';
+import { veiled } from '../../page/src/veiling.js';
+import { checksOf, captionsOf, expectationsOf, withAnswerApart } from '../../page/src/lessons.js';
 
 export function verdictCases({ same, traceOf, three }) {
   const plain = ({ text }) => text.replace(/<[^>]*>/g, '').replace(/\s+/g, ' ').trim();

@@ -1,27 +1,27 @@
-// Words of other languages, for tests/page.mjs: that none is missing, and how a text is looked up.
+// Words of other languages, for tests/page/page.mjs: that none is missing, and how a text is looked up.
 import { readFileSync, readdirSync } from 'node:fs';
 import { fileURLToPath } from 'node:url';
-import { hasWords, pairsIn, translatorOf } from '../page/src/languages.js';
-import { named, readTrace } from '../page/src/trace.js';
-import { checksOf, expectationsOf, isExercise, runnable } from '../page/src/lessons.js';
-import { equationOf, progressOf } from '../page/src/exercises.js';
-import { veiled } from '../page/src/veiling.js';
-import { layOut, wiringOf } from '../page/src/layout.js';
-import { drawingOf } from '../page/src/drawing.js';
-import { detailOf, eventOf, openAt } from '../page/src/detail.js';
-import { matrixOf, tablesOf, tallyOf } from '../page/src/tables.js';
-import { quizOf } from '../page/src/quiz.js';
-import { timelineOf } from '../page/src/timeline.js';
-import { LINES, REASONS } from '../page/src/texts.js';
-import { OUTCOMES } from '../page/src/walks.js';
-import { ENDS, verdictOf } from '../page/src/forwarding.js';
+import { hasWords, pairsIn, translatorOf } from '../../page/src/languages.js';
+import { named, readTrace } from '../../page/src/trace.js';
+import { checksOf, expectationsOf, isExercise, runnable } from '../../page/src/lessons.js';
+import { equationOf, progressOf } from '../../page/src/exercises.js';
+import { veiled } from '../../page/src/veiling.js';
+import { layOut, wiringOf } from '../../page/src/layout.js';
+import { drawingOf } from '../../page/src/drawing.js';
+import { detailOf, eventOf, openAt } from '../../page/src/detail.js';
+import { matrixOf, tablesOf, tallyOf } from '../../page/src/tables.js';
+import { quizOf } from '../../page/src/quiz.js';
+import { timelineOf } from '../../page/src/timeline.js';
+import { LINES, REASONS } from '../../page/src/texts.js';
+import { OUTCOMES } from '../../page/src/walks.js';
+import { ENDS, verdictOf } from '../../page/src/forwarding.js';
 
-const FOLDER = fileURLToPath(new URL('../page/words/', import.meta.url)), files = readdirSync(FOLDER);
+const FOLDER = fileURLToPath(new URL('../../page/words/', import.meta.url)), files = readdirSync(FOLDER);
 const wordsOf = file => readFileSync(`${FOLDER}${file}`, 'utf8');
 
 // The texts that stand in the frame: between its tags, and in what is read of them.
 function textsOfFrame() {
-  const frame = readFileSync(fileURLToPath(new URL('../page/src/frame.html', import.meta.url)), 'utf8');
+  const frame = readFileSync(fileURLToPath(new URL('../../page/src/frame.html', import.meta.url)), 'utf8');
   const [, body] = /<body>([^]*)<div id="own"/.exec(frame), plain = body.replace(/<!--[^]*?-->/g, '').replace(/<(code|svg)\b[^]*?<\/\1>/g, '<>');
   const between = plain.split(/<[^>]*>/), read = [...body.matchAll(/\b(?:title|aria-label)="([^"]*)"/g)].map(([, text]) => text);
   return [...between, ...read].map(text => text.trim().replace(/\s+/g, ' ')).filter(text => hasWords(text, ['Español', 'English', 'Deutsch', 'ripngd', 'lab']));
@@ -55,7 +55,7 @@ export function wordCases({ ran, same }) {
   return {
     // Each text that a pane shows of a lesson, an exercise or an example has words, where it has letters that are no name.
     'what panes say has words': () => {
-      const all = new Map(), allNames = new Set(), folder = fileURLToPath(new URL('../examples/', import.meta.url));
+      const all = new Map(), allNames = new Set(), folder = fileURLToPath(new URL('../../examples/', import.meta.url));
       const scripts = ['', 'lessons/', 'exercises/'].flatMap(part => readdirSync(folder + part).filter(file => file.endsWith('.lab')).map(file => part + file));
       for (const file of scripts.filter(one => !/slowly|repeated|phases\.lab$|healing/.test(one))) {
         const script = readFileSync(folder + file, 'utf8').split('\n').map(line => line.startsWith('#') ? line : line.trim()).join('\n');

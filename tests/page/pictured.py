@@ -1,8 +1,9 @@
-"""Visits of who looks at what stands beside the network, for tests/visits.py: the time diagram, next hops and packets that run, other
+"""Visits of who looks at what stands beside the network, for tests/page/visits.py: the time diagram, next hops and packets that run, other
 versions of the network, hosts that are no routers, and a network from a list."""
 import json
 
-from seen import same, text_of
+from seen import text_of
+from suite import same
 
 # The arrows of the time diagram: what is told of the first that is later than the step, and where it leads.
 LATER = '(({ dataset, ariaLabel }) => [dataset.choose, ariaLabel])(document.querySelector("#times .message.later:not(.lost)"))'

@@ -1,8 +1,9 @@
-"""Visits of a reader of lessons, for tests/visits.py: the first page, what is seen of each lesson, and acts in the middle of
+"""Visits of a reader of lessons, for tests/page/visits.py: the first page, what is seen of each lesson, and acts in the middle of
 one, with the way back."""
 import json
 
-from seen import same, text_of
+from seen import text_of
+from suite import same
 
 # Steps through each lesson: where router 0 stands, and whether some of what is said of it is cut off.
 READ = '''(async () => {

@@ -1,4 +1,4 @@
-"""What is seen of the laboratory's page, as expressions of JavaScript, for tests/visits.py."""
+"""What is seen of the laboratory's page, as expressions of JavaScript, for tests/page/visits.py."""
 import json
 
 ROUTE = '2001:db8::/32'
@@ -54,8 +54,3 @@ SHOWN = '''['header button', '#editor', '#acts', '#tables table', '#drawing svg'
 
 def text_of(selector):
     return f'(document.querySelector({json.dumps(selector)})?.textContent ?? "").trim().replace(/\\s+/g, " ")'
-
-
-def same(what, given, wanted):
-    if given != wanted:
-        raise AssertionError(f'{what} is {given!r} and not {wanted!r}')

@@ -1,8 +1,9 @@
-"""Visits of who solves exercises, for tests/visits.py: that no pane tells what is asked, tries, hints, other numbers, and what is saved."""
-from seen import same, text_of
+"""Visits of who solves exercises, for tests/page/visits.py: that no pane tells what is asked, tries, hints, other numbers, and what is saved."""
+from seen import text_of
+from suite import same
 
 # At the start, in the middle and at the first blank of each exercise: what is told of the routes that it asks for. All other steps, and all
-# blanks, are those of tests/page_exercises.mjs.
+# blanks, are those of tests/page/page_exercises.mjs.
 TOLD = '''(async () => {
   const page = window.wrappedJSObject ?? window, byId = id => document.getElementById(id), faults = [], all = words => [...document.querySelectorAll(words)];
   const names = all('#scripts > div').map(script => script.dataset.name).filter(name => name.startsWith('exercise-'));

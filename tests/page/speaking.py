@@ -1,10 +1,11 @@
-"""Visits of readers of other languages, for tests/visits.py: all that the page says in a tour is said in theirs."""
+"""Visits of readers of other languages, for tests/page/visits.py: all that the page says in a tour is said in theirs."""
 import json
 
-from seen import same, text_of
+from seen import text_of
+from suite import same
 
 LANGUAGES = {'de': ('Runde', 'Router starten', 'Pakete für'), 'es': ('ronda', 'arrancan', 'Los paquetes para')}
-# Steps through some scripts, and chooses what there is. What panes say of all of them tests/page_words.mjs looks up.
+# Steps through some scripts, and chooses what there is. What panes say of all of them tests/page/page_words.mjs looks up.
 TOUR = '''(async () => {
   const page = window.wrappedJSObject ?? window, byId = id => document.getElementById(id), pause = () => new Promise(resolve => { setTimeout(resolve, 5); });
   const chooseAll = async () => {

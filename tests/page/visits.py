@@ -1,22 +1,26 @@
 #!/usr/bin/env python3
-"""Visits to the laboratory's page by real clicks and keys, for tests/page.py.
+"""Visits to the laboratory's page by real clicks and keys, for tests/page/page.py.
 
-    tests/visits.py chromium|firefox VISIT URL      says nothing, or why it went wrong, with status 1
+    tests/page/visits.py chromium|firefox VISIT URL      says nothing, or why it went wrong, with status 1
 
 The newcomer knows nothing but what stands in the page: each thing is found by its name as it is read there, has to be in sight,
 and has to be what lies under the pointer. What metrics have to come is worked out by hand, for a ring of five of which R0 owns
 the prefix: the hops to R0 the shorter way around, and 1.
 """
 import json
+import pathlib
 import sys
 
+sys.dont_write_bytecode = True
+sys.path.append(str(pathlib.Path(__file__).resolve().parents[1] / "support"))
 import browser
 from newcomer import BY_WIDTH, Newcomer
 from pictured import Pictured
 from reading import Reader
 from solving import Solver
 from speaking import Speaker
-from seen import CUT_OFF, FIND, METRICS, NAMES_KEPT, ROUTE, SHOWN, SMALL, STILL, TEXT_KEPT, WIDE, same, text_of
+from seen import CUT_OFF, FIND, METRICS, NAMES_KEPT, ROUTE, SHOWN, SMALL, STILL, TEXT_KEPT, WIDE, text_of
+from suite import Failed, same
 
 NAMES = ('newcomer', 'keyboard', 'sizes', 'phone', 'room', 'drafts', 'undone', 'places', 'first', 'lessons', 'branches', 'diagram', 'packets', 'versions', 'forged', 'pasted', 'exercises', 'languages', *BY_WIDTH)
 
@@ -34,7 +38,7 @@ class Visit(Newcomer, Reader, Pictured, Solver, Speaker):
         try:
             return self.page.wait(expression, 60)
         except TimeoutError:
-            raise AssertionError(f'it is never so that {what}; the page says {self.read("#editing")!r}') from None
+            raise Failed(f'it is never so that {what}; the page says {self.read("#editing")!r}') from None
 
     def read(self, selector):
         return self.page.value(text_of(selector))
@@ -370,7 +374,7 @@ def main(kind, name, url):
     page = browser.open_browser(kind)
     try:
         visit(page, url, name)
-    except AssertionError as fault:
+    except Failed as fault:
         sys.exit(str(fault))
     finally:
         page.close()

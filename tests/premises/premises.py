@@ -2,14 +2,14 @@
 """Premises of the theorems, field by field, of what really happened: to three routers in a ring over loopback, and to networks of the
 laboratory.
 
-    tests/premises.py PROGRAM [NAME..]      all checks, or those that have NAME in theirs
+    tests/premises/premises.py PROGRAM [NAME..]      all checks, or those that have NAME in theirs
 
 A check is one field of one definition of crates/*/specs, by its name there. A line for each that fails, and last how many passed. Where a
 field fails of an honest run, no theorem speaks of that run. When a router asks its neighbors by itself is no premise, but proved of it; it
 is checked, too.
 
-The routers are the program, each a process of its own. Its calls of the system are noted by a library (tests/recorded/calls.c). The ring
-runs by the clock of the system, and by a clock of the test's own (tests/recorded/conductor.py), on which half an hour takes seconds. Then
+The routers are the program, each a process of its own. Its calls of the system are noted by a library (tests/premises/recorded/calls.c). The ring
+runs by the clock of the system, and by a clock of the test's own (tests/premises/recorded/conductor.py), on which half an hour takes seconds. Then
 faults are planted in what was done, and each breaks just the fields that it should."""
 
 import functools
@@ -18,6 +18,7 @@ import sys
 import threading
 
 sys.dont_write_bytecode = True
+sys.path.append(str(pathlib.Path(__file__).resolve().parents[1] / "support"))
 from networks import lab
 from recorded import faults, links, questions, scenes, scripted, times, trace_faults
 from recorded.recent import RECENT

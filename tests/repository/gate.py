@@ -1,7 +1,7 @@
 #!/usr/bin/env python3
 """The merge gate fails where it has to: .ci/run is played in a copy of the repository, over a judge and tests that say what a case wants.
 
-    tests/gate.py PROGRAM [NAME..]
+    tests/repository/gate.py PROGRAM [NAME..]
 
 Nothing is proved, and no test of PROGRAM is run: it stands in for the program that the judge would leave. In the copy `rt`, `apt-get`,
 page/build.sh, tests/all.sh and tools/mutants are stubs. NAME.. are words of the names of cases that are played, all where there are none.
@@ -12,10 +12,12 @@ import pathlib
 import subprocess
 import sys
 
+sys.dont_write_bytecode = True
+sys.path.append(str(pathlib.Path(__file__).resolve().parents[1] / "support"))
 from judged import CRATES, EDIT, OK, PASSED, REFUSED, copied, judge, stub
 from suite import Failed, named, play, same
 
-TESTED = "== cases.py, 3 s\nskipped: nothing\n800 passed, 0 failed\n"
+TESTED = "== command/cases.py, 3 s\nskipped: nothing\n800 passed, 0 failed\n"
 # What each stub says where a case does not say otherwise, and its exit status. The last lines are as those of the real ones.
 GOOD = {"rt": (PASSED, 0), "page/build.sh": ("", 0), "tests/all.sh": (TESTED, 0), "tools/mutants": ("2 passed, 0 failed\n", 0)}
 # What is planted, by case: a stub, what it says and its exit status; and words of a line that the gate says then. In each the gate fails.
@@ -30,7 +32,7 @@ PLANTED = {
     "a crate of which nothing is said": ("rt", PASSED.replace("rt: fib proved\n", ""), 0, "did not say that these are proved: fib"),
     "a page of other sources": ("page/build.sh", "docs/lab.html is not that of the sources\n", 1, "FAILED docs/lab.html"),
     "a test that fails": ("tests/all.sh", TESTED.replace("800 passed, 0", "799 passed, 1"), 1, "831 passed, 1 failed"),
-    "tests that end too soon": ("tests/all.sh", "== cases.py, 3 s\n", 0, "tests: it did not come to its end"),
+    "tests that end too soon": ("tests/all.sh", "== command/cases.py, 3 s\n", 0, "tests: it did not come to its end"),
     "tests with status 1 and a good last line": ("tests/all.sh", TESTED, 1, "tests: its last line counts no failure, and its exit status is 1"),
     "a mutant that no test catches": ("tools/mutants", "another_seed: MISSED by run.case: seed\n1 passed, 1 failed\n", 1, "831 passed, 1 failed"),
 }

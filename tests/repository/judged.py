@@ -4,7 +4,7 @@ import pathlib
 import shutil
 import subprocess
 
-ROOT = pathlib.Path(__file__).resolve().parent.parent
+ROOT = pathlib.Path(__file__).resolve().parents[2]
 CRATES = subprocess.run([ROOT / "tools/crates.py", "below", "ripngd_program"], capture_output=True, text=True, check=True).stdout.split()
 EDIT = "rt: must-fail fib/takes_the_shortest_match.edit"
 REFUSED = f"{EDIT}: refused, as it must be: src/fib.rt:1:1: error: this goal is not proved\n"

@@ -1,7 +1,7 @@
 #!/usr/bin/env python3
 """A program that is not proved says so, and only one with the mark of a proved program of these sources is installed, packed and started.
 
-    tests/marked.py PROGRAM [NAME..]
+    tests/repository/marked.py PROGRAM [NAME..]
 
 PROGRAM is looked at as it is: it says `unproved`, or it has the mark that the gate or `make prove` wrote. Where it is proved, one that is
 not is made from a copy of the sources, which takes some two minutes. In the other cases PROGRAM stands in for a proved one, with a mark
@@ -15,6 +15,8 @@ import shutil
 import subprocess
 import sys
 
+sys.dont_write_bytecode = True
+sys.path.append(str(pathlib.Path(__file__).resolve().parents[1] / "support"))
 from judged import PASSED, ROOT, copied, judge, stub
 from suite import Failed, named, play, same
 

@@ -1,9 +1,9 @@
 #!/usr/bin/env python3
 """What README, docs, manual pages, examples and doc comments say, beside the tree and the program: names, numbers and commands.
 
-    tests/pages.py PROGRAM [NAME..]     all cases, or those whose name has one of these words in it
+    tests/repository/pages.py PROGRAM [NAME..]     all cases, or those whose name has one of these words in it
 
-tests/stated.py has the checks of names and numbers, tools/prose.py those of sentences and words. Here are the commands that pages show:
+stated.py has the checks of names and numbers, tools/prose.py those of sentences and words. Here are the commands that pages show:
 each is run, or stands in NOT_PLAYED with the reason. Then faults are planted in copies of the tree, and each has to be found."""
 
 import os
@@ -14,10 +14,11 @@ import subprocess
 import sys
 
 sys.dont_write_bytecode = True
+sys.path.append(str(pathlib.Path(__file__).resolve().parents[1] / "support"))
 from stated import CHECKS, MADE, SPAN, Tree
 from suite import Failed, Ports, end_group, named, play, same
 
-ROOT = pathlib.Path(__file__).resolve().parent.parent
+ROOT = pathlib.Path(__file__).resolve().parents[2]
 sys.path.append(str(ROOT / "tools"))
 import prose
 
@@ -209,5 +210,5 @@ def main(program, *names):
 
 if __name__ == "__main__":
     if len(sys.argv) < 2:
-        sys.exit("usage: tests/pages.py PROGRAM [NAME..]")
+        sys.exit("usage: tests/repository/pages.py PROGRAM [NAME..]")
     sys.exit(main(*sys.argv[1:]))

@@ -244,8 +244,8 @@ def items(tree, page, heading, item):
 def false_counts(tree):
     """Counts that pages state of what stands beside them, or in a test."""
     refusals = [int(number) for number in re.findall(r"(?:^\| |with )(\d+)(?: \| | )`\w+`", tree.text("docs/PROTOCOL.md"), re.MULTILINE)]
-    scripts = re.search(r"^SCRIPTS, \w+ = (\d+)", tree.text("tests/lab_file.py"), re.MULTILINE)[1]
-    widths = [f"{int(width):,}" for width in re.findall(r"(\d+): \d+[,}]", re.search("^HEIGHTS = .*", tree.text("tests/newcomer.py"), re.MULTILINE)[0])]
+    scripts = re.search(r"^SCRIPTS, \w+ = (\d+)", tree.text("tests/page/lab_file.py"), re.MULTILINE)[1]
+    widths = [f"{int(width):,}" for width in re.findall(r"(\d+): \d+[,}]", re.search("^HEIGHTS = .*", tree.text("tests/page/newcomer.py"), re.MULTILINE)[0])]
     wanted = [
         ("docs/OPERATING.md", f"the numbers 1 to {max(refusals)} of refusals"),
         ("README.md", f"## {in_words(items(tree, 'README.md', ' ways to start', '^[*][*]You '))} ways to start"),

@@ -8,25 +8,11 @@ import signal
 import socket
 import subprocess
 import sys
-import time
 
-from suite import Failed, Ports, play
+from suite import SECONDS, Failed, Ports, play, until
 
-SECONDS = 60
 RUNNING = "ripngd: running, "
 Outcome = collections.namedtuple("Outcome", "status out err")
-
-
-def until(what, holds, seconds=SECONDS):
-    """Waits until something holds, and answers it; fails the case where it does not."""
-    end = time.monotonic() + seconds
-    while True:
-        found = holds()
-        if found:
-            return found
-        if time.monotonic() > end:
-            raise Failed(f"within {seconds} seconds not {what}")
-        time.sleep(0.02)
 
 
 def toml(value):

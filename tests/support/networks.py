@@ -3,6 +3,7 @@
 import collections
 import ipaddress
 import itertools
+import random
 import re
 import subprocess
 
@@ -13,6 +14,15 @@ Owner = collections.namedtuple("Owner", "router prefix tag")
 MOST_HOPS = 14
 
 ROUTE = re.compile(r"(\S+) (\S+) metric (\d+) tag (\d+) (?:own|via (\S+) iface (\d+) from (\S+))")
+
+# What is lost and changed in a random network: the second router owns a prefix of the third from now on, and only the first and the third
+# tell what they have, of which much is lost.
+TROUBLE = """rounds 3 0 15000
+drop 2 +1 2001:db8:c::/48
+gain 1 +0 2001:db8:c::/48 3
+tell 0 +60000 0 but 0
+tell 2 +0 0 but 0 1
+"""
 
 
 def row(prefix, times):
@@ -104,6 +114,16 @@ def lines_of(ports, owners):
         lines += [f"iface {port.addr} {port.cost} 1280 {port.link}" for port in ports if port.router == router]
         lines += [f"own {owner.prefix} {owner.tag}" for owner in owners if owner.router == router]
     return lines
+
+
+def random_network(seed):
+    """A network of three to five routers, with two interfaces each, on one of four links. The first and the third router own a prefix
+    each, and both own one of them."""
+    words = random.Random(seed)
+    ports = [Port(router, iface, f"fe80::{router}:{iface}", words.randint(1, 6), words.randrange(4))
+             for router in range(3 + seed % 3) for iface in range(2)]
+    owners = [Owner(0, "2001:db8::/32", "1"), Owner(2, "2001:db8::/32", "2"), Owner(2, "2001:db8:c::/48", "3")]
+    return "\n".join([*lines_of(ports, owners), "cold 0", ""])
 
 
 def routes_of(printed):

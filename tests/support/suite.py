@@ -8,7 +8,12 @@ import shutil
 import signal
 import socket
 import tempfile
+import time
 import traceback
+
+
+SECONDS = 60
+"""What is waited for has so long to come."""
 
 
 class Failed(Exception):
@@ -19,6 +24,17 @@ def same(what, got, wanted):
     """Fails the case where what it got is not what is wanted."""
     if got != wanted:
         raise Failed(f"{what} is {got!r} and not {wanted!r}")
+
+
+def until(what, holds, seconds=SECONDS, pause=0.02):
+    """Waits until something holds, and answers it; fails the case where it does not. What that is may be known only then: a function says
+    it."""
+    end = time.monotonic() + seconds
+    while not (found := holds()):
+        if time.monotonic() > end:
+            raise Failed(f"not within {seconds} seconds: {what() if callable(what) else what}")
+        time.sleep(pause)
+    return found
 
 
 def taken():
@@ -76,14 +92,15 @@ def outcome(name, case):
         shutil.rmtree(folder, ignore_errors=True)
 
 
-def play(cases, workers=None):
-    """Runs cases, pairs of a name and a function of a folder, side by side. Prints those that fail, and how many there are."""
+def play(cases, workers=None, names_passed=False):
+    """Runs cases, pairs of a name and a function of a folder, side by side. Prints those that fail, those that pass where that is asked,
+    and how many there are."""
     failed = 0
     with concurrent.futures.ThreadPoolExecutor(workers or os.cpu_count()) as pool:
-        for said in pool.map(lambda case: outcome(*case), cases):
-            if said:
-                failed += 1
-                print(said, flush=True)
+        for (name, _), said in zip(cases, pool.map(lambda case: outcome(*case), cases)):
+            failed += said is not None
+            if said or names_passed:
+                print(said or f"ok {name}", flush=True)
     print(f"{len(cases) - failed} passed, {failed} failed", flush=True)
     return 1 if failed or not cases else 0
 

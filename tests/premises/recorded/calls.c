@@ -37,7 +37,7 @@
 #include <time.h>
 #include <unistd.h>
 
-#include "../ports.h"
+#include "../../support/ports.h"
 
 enum { LONGEST = 65536 };
 

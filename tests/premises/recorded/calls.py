@@ -1,5 +1,5 @@
 """Records of what a router did in one run: the calls of its link, and its deeds, as crates/ripngd_engine/specs/Link.antt and
-crates/ripngd_theorems/specs/Daemons.antt have them. They are read from the calls of the system that tests/recorded/calls.c noted.
+crates/ripngd_theorems/specs/Daemons.antt have them. They are read from the calls of the system that tests/premises/recorded/calls.c noted.
 
 Moments of the true clock are in nanoseconds, a router's own in milliseconds since its clock was made."""
 
@@ -45,7 +45,7 @@ class Call:
 @dataclasses.dataclass(frozen=True)
 class Deed:
     """An act, with the moments that the router's clock gave and the calls of its link (`Deed`, `Trace`). `change` is what a client said, `on`
-    the interface on which it asks, and `sizes` those of its tables after it, if they are known (tests/recorded/replayed.py)."""
+    the interface on which it asks, and `sizes` those of its tables after it, if they are known (tests/premises/recorded/replayed.py)."""
     router: int
     run: int
     at: int
@@ -69,7 +69,7 @@ class Deed:
 
 @dataclasses.dataclass(frozen=True)
 class Event:
-    """A call of the system, as tests/recorded/calls.c notes it."""
+    """A call of the system, as tests/premises/recorded/calls.c notes it."""
     at: int
     name: str
     asked: tuple

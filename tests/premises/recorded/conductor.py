@@ -1,7 +1,7 @@
 """Routers that run side by side on a clock of the test's own: each is a process of its own with its own sockets, and the clock goes on
 when all of them wait. So an hour takes seconds, and nothing depends on how fast the machine is.
 
-tests/recorded/calls.c stands in each process before the C library. It tells the conductor until when the program would wait, and the
+tests/premises/recorded/calls.c stands in each process before the C library. It tells the conductor until when the program would wait, and the
 conductor lets one of them go on at a time."""
 
 import socket

@@ -68,7 +68,7 @@ class Ring:
         return "".join(lines + [prefix(text, tag=tag) for text, tag in config.prefixes])
 
     def start(self, router, **orders):
-        """Starts it with the configuration in force, and these orders to tests/recorded/calls.c."""
+        """Starts it with the configuration in force, and these orders to tests/premises/recorded/calls.c."""
         number = len(self.runs[router])
         config = self.in_force(router) if number else configured(router)
         text, name = self.text(router, config), f"router{router}-{number}"

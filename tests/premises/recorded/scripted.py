@@ -4,9 +4,8 @@ seconds. With each goes when a line happens by the true clock, where its routers
 import dataclasses
 import random
 
-from networks import lab
+from networks import TROUBLE, lab, random_network
 from recorded.traces import Trace
-from scripts import TROUBLE, random_network
 
 GAP = 480
 """A router ticks again within so many milliseconds."""
