@@ -4,6 +4,7 @@ import asyncio
 import json
 import socket
 
+from journal import why
 from table import Fault
 
 SOCKET, FOLDER = "companion", "/run/ripngd-links"
@@ -27,7 +28,10 @@ async def answer(commands, reader, writer):
 
 async def listen(folder, commands):
     """Serves clients by these commands from now on."""
-    await asyncio.start_unix_server(lambda reader, writer: answer(commands, reader, writer), f"{folder}/{SOCKET}")
+    try:
+        await asyncio.start_unix_server(lambda reader, writer: answer(commands, reader, writer), f"{folder}/{SOCKET}")
+    except OSError as fault:
+        raise Fault(f"cannot listen at {folder}/{SOCKET}: {why(fault)}", 3) from None
 
 
 def ask(folder, word):

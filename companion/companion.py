@@ -14,7 +14,7 @@ import sockets
 import status
 from check import taken
 from events import States
-from journal import log, say
+from journal import log, say, why
 from kernel import Kernel
 from plan import Plan
 from pulse import Pulse, notify
@@ -42,7 +42,7 @@ def folder_of(table):
             os.chmod(folder, 0o711)
         fcntl.flock(os.open(folder, os.O_RDONLY), fcntl.LOCK_EX | fcntl.LOCK_NB)
         if os.geteuid() == 0:
-            os.chown(folder, privilege.account_of(table.user).pw_uid, -1)
+            privilege.give(folder, table.user)
     except BlockingIOError:
         raise Fault(f"cannot use {folder}: another ripngd-links is there; name another `folder`", 3) from None
     except OSError as fault:
@@ -66,6 +66,8 @@ class Companion:
         # The router's forwarding table, what it owns, its links with their keys, and which of them the table has no longer.
         self.forwarding, self.owned, self.attached, self.left = {}, {}, {}, set()
         self.stopping, self.hands_over, self.fault = asyncio.Event(), False, None
+        # Why no router starts, where that was tried in vain.
+        self.trouble = None
         # What is to be done later, and in how many seconds the router starts anew.
         self.sweeping, self.gathering, self.gathers = None, None, 0
         # The states of links, and whether all of them are to be said; what is counted, since when; and what is looked at.
@@ -85,6 +87,7 @@ class Companion:
         self.sweep_after(PATIENCE + STAY)
         loop.add_reader(self.watch.sock, self.heed)
         self.look()
+        self.sweep_links()
         await asking.listen(self.folder, {"status": self.tell_status, "reload": self.tell_reload})
         notify("READY=1")
         pulse, keeper = asyncio.create_task(self.pulse.run()), asyncio.create_task(self.keep_router())
@@ -250,7 +253,7 @@ class Companion:
             try:
                 await self.live()
             except OSError as fault:
-                say(f"the router is not started, which is tried again: {fault}")
+                self.say_trouble(why(fault))
             if self.attached:  # nobody has asked it to end
                 await self.wait(PAUSE)
 
@@ -258,21 +261,34 @@ class Companion:
         """A router's whole life, on the links that are attached. What came while no router was there is old, and dropped: the
         router asks anew."""
         self.owned, self.router.program, self.left, given = self.plan.owned(), self.table.program, set(), []
-        for number, link in enumerate(self.attached):
-            link.number = number
+        for link in self.attached:
             link.sockets.drain()
             given += link.sockets.keys().values()
-        text, names = configuration(self.attached.values(), self.owned), list(self.names().values())
-        self.counts["starts"] += 1
-        say(f"the router starts on {', '.join(names[:NAMED])}{f' and {len(names) - NAMED} more' * (len(names) > NAMED)}")
+        self.router.start(configuration(self.attached.values(), self.owned), given, self.debug)
+        self.begin()
         try:
-            code = await self.router.live(text, given, self.debug, self.change, self.hear)
+            code = await self.router.live(self.change, self.hear)
         finally:
             self.lose()
         if code in (1, 2):
             raise Fault(f"the router refuses {self.router.config}")
         if code and self.attached and not self.stopping.is_set():
             say(f"the router has ended with status {code}")
+
+    def begin(self):
+        """A router has started: its interfaces have their numbers, it is counted, and said on which links it is."""
+        for number, link in enumerate(self.attached):
+            link.number = number
+        names = list(self.names().values())
+        self.counts["starts"] += 1
+        self.trouble = None
+        say(f"the router starts on {', '.join(names[:NAMED])}{f' and {len(names) - NAMED} more' * (len(names) > NAMED)}")
+
+    def say_trouble(self, trouble):
+        """Says why no router starts, once as long as that is the same."""
+        if trouble != self.trouble:
+            say(f"the router is not started, which is tried again: {trouble}")
+        self.trouble = trouble
 
     def lose(self):
         """The router has ended. The kernel keeps its routes until the next one has had time to tell its own."""
@@ -281,6 +297,12 @@ class Companion:
         self.sweep_after(STAY)
         for link in self.plan.links.values():
             link.number = None
+
+    def sweep_links(self):
+        """Takes away what an earlier companion has left on links that have no carrier by now."""
+        for link in self.plan.links.values():
+            if link.device and not link.device.carrier:
+                self.kernel.sweep(link.link.device)
 
     def sweep_after(self, seconds):
         """What is not told within that time is no route any longer."""

@@ -61,3 +61,10 @@ log = Log()
 
 def say(text):
     log.line(f"ripngd-links: {text}")
+
+
+def why(fault):
+    """What a fault is, in words. One of the system has the file, if there is one, and what is wrong with it."""
+    if not isinstance(fault, OSError) or not fault.strerror:
+        return str(fault)
+    return f"{fault.filename}: {fault.strerror}" if fault.filename else fault.strerror

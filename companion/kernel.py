@@ -51,16 +51,18 @@ class Kernel:
         """Keeps what an earlier companion left until the router has told its own; what has another shape goes. Packets to
         what is always owned go nowhere where they have no other way: they would go to a neighbor and come back."""
         self.owned = owned
-        strange = []
+        strange, kept = [], set()
         for prefix, route in self.there() or ():
             gateway, priority = route.get("gateway"), route.get("metric", 0)
             hop = f"via {gateway} dev {route.get('dev')}"
             if gateway and priority == self.priority:
                 self.held[prefix] = hop
+            elif prefix in owned and route.get("type") == NOWHERE and priority == LAST:
+                kept.add(prefix)
             else:
                 place = hop if gateway else f"dev {route['dev']}" if "dev" in route else ""
                 strange.append(f"route del {prefix} {place} metric {priority} {self.common}")
-        await self.batch(strange + [self.to_nowhere(prefix) for prefix in owned])
+        await self.batch(strange + [self.to_nowhere(prefix) for prefix in owned if prefix not in kept])
         self.expire()
 
     def to_nowhere(self, prefix, verb="add"):

@@ -30,6 +30,24 @@ def keep(*capabilities):
         raise Fault(f"needs {' and '.join(NAMES[capability] for capability in capabilities if capability in NAMES)}", 3)
 
 
+def give(folder, user):
+    """The folder is that user's from here on."""
+    try:
+        os.chown(folder, account_of(user).pw_uid, -1)
+    except PermissionError:
+        raise Fault(f"cannot give {folder} to {user}: needs CAP_CHOWN", 3) from None
+
+
+def become(account):
+    """From here on this process is of that account, and of no other group than its own."""
+    try:
+        os.setgroups([])
+        os.setresgid(*[account.pw_gid] * 3)
+        os.setresuid(*[account.pw_uid] * 3)
+    except PermissionError:
+        raise Fault(f"cannot become {account.pw_name}: needs CAP_SETGID and CAP_SETUID", 3) from None
+
+
 def is_permitted(capability):
     """Whether this process has it."""
     bits = ctypes.create_string_buffer(24)
@@ -56,9 +74,7 @@ def drop(user, *capabilities):
         for capability in set(range(64)) - set(capabilities):
             prctl(DROP_BOUND, capability)
         prctl(KEEP, 1)
-        os.setgroups([])
-        os.setresgid(*[account.pw_gid] * 3)
-        os.setresuid(*[account.pw_uid] * 3)
+        become(account)
     prctl(NO_NEW_PRIVILEGES, 1)
     keep(*capabilities)
 

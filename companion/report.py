@@ -124,7 +124,12 @@ def known(companion):
 
 def put(path, text):
     """The file has that text, at once and as a whole, and everybody may read it."""
-    with tempfile.NamedTemporaryFile("w", dir=os.path.dirname(path) or ".", prefix=".ripngd-links-", delete=False) as file:
-        file.write(text)
-    os.chmod(file.name, 0o644)
-    os.replace(file.name, path)
+    file = tempfile.NamedTemporaryFile("w", dir=os.path.dirname(path) or ".", prefix=".ripngd-links-", delete=False)
+    try:
+        with file:
+            file.write(text)
+        os.chmod(file.name, 0o644)
+        os.replace(file.name, path)
+    except OSError:
+        os.unlink(file.name)
+        raise

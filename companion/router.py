@@ -80,10 +80,13 @@ class Router:
         # When the process began, and when it answered last.
         self.began, self.answered = float("-inf"), float("-inf")
 
-    async def live(self, text, sockets, debug, changed, said):
-        """Runs the process with those sockets, and answers its status. `changed` is given the lines of its log, `said` all others."""
-        with open(os.open(self.config, os.O_WRONLY | os.O_CREAT | os.O_TRUNC, 0o600), "w") as file:
-            file.write(text)
+    def start(self, text, sockets, debug):
+        """Starts the process with that configuration and those sockets."""
+        try:
+            with open(os.open(self.config, os.O_WRONLY | os.O_CREAT | os.O_TRUNC, 0o600), "w") as file:
+                file.write(text)
+        except OSError as fault:
+            raise OSError(fault.errno, fault.strerror, self.config) from None
         words = [self.program, "run", *["-d"] * debug, "-R", "-", "--control", self.control, self.config]
         pipes = {"stdin": subprocess.DEVNULL, "stdout": subprocess.PIPE, "stderr": subprocess.PIPE}
         own = {"umask": 0o077, "start_new_session": True, "preexec_fn": leave}
@@ -91,6 +94,9 @@ class Router:
             self.process, self.began = subprocess.Popen(words, **pipes, **own, pass_fds=sockets), time.monotonic()
         except (FileNotFoundError, PermissionError) as fault:
             raise Fault(f"cannot start {self.program}: {fault.strerror}") from None
+
+    async def live(self, changed, said):
+        """The status of the process, once it has ended. `changed` is given the lines of its log, `said` all others."""
         await asyncio.gather(self.listen(self.process.stdout, changed), self.listen(self.process.stderr, said))
         self.ready = False
         return self.process.wait()

@@ -29,7 +29,7 @@ def current(folder):
             told = json.load(file)
         age = time.time() - told["written_timestamp_seconds"]
     except (OSError, ValueError) as fault:
-        raise Fault(f"cannot read {folder}/{STATUS}: {fault}", 3) from None
+        raise Fault(f"cannot read {folder}/{STATUS}: {fault.strerror if isinstance(fault, OSError) else fault}", 3) from None
     if age > OLD:
         raise Fault(f"{folder}/{STATUS} is {age:.0f} s old, so the companion has ended", 3)
     return told

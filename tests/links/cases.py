@@ -43,13 +43,15 @@ CASES += [trust.one_address_everywhere, trust.a_query_from_afar, trust.a_device_
 CASES += [trust.wrong_sockets, trust.two_devices_on_one_link]
 CASES += [faults.an_absent_device, faults.an_address_of_another, faults.no_forwarding, faults.a_table_without_routes]
 CASES += [faults.an_ip_that_fails, faults.a_log_that_fails, faults.nothing_loops, faults.a_hung_router, faults.a_checked_table]
+CASES += [faults.a_full_folder]
 CASES += [starts.a_late_neighbor, starts.a_silent_neighbor, starts.a_late_address]
 CASES += [changes.routes_stay, changes.what_is_not_told_goes, changes.routes_come_back, changes.a_link_goes_and_comes]
-CASES += [changes.a_last_update]
-CASES += [reloads.a_reload, reloads.a_refused_reload, reloads.lists_are_reloaded, reloads.a_hand_over, reloads.links_by_pattern]
+CASES += [changes.a_cut_is_gone_around, changes.a_cut_meanwhile, changes.a_last_update]
+CASES += [reloads.a_reload, reloads.a_refused_reload, reloads.lists_are_reloaded, reloads.a_hand_over, reloads.links_by_pattern,
+          reloads.a_reloaded_pattern]
 CASES += [daily.the_log, daily.a_flood_of_lines, daily.monitoring, daily.routes_are_mended, daily.a_hung_router_is_replaced]
 CASES += [daily.no_martians, daily.a_bridge_port, daily.a_renamed_device, daily.two_capabilities]
-CASES += [lists.half_of_a_datagram, lists.what_is_told, lists.the_greatest_number, lists.static_routes_win]
+CASES += [lists.half_of_a_datagram, lists.what_is_told, lists.the_greatest_number, lists.static_routes_win, lists.a_default_route]
 CASES += [service.a_refused_table, service.ends_by_signals, service.links_that_are_not_there, service.losses_are_counted]
 CASES += [service.the_units, package.a_package, sniffed.captured_routers, the_parts]
 # Played only where it is named.

@@ -5,15 +5,15 @@ import subprocess
 import time
 
 from edges import is_router
-from least import REGULAR, TRIGGERED, least, settle
-from spaces import Bird, Ours, until
-from suite import same
+from least import QUICK, REGULAR, TRIGGERED, least, settle
+from spaces import Bird, Ours, same, until
 
 STAYS, GOES = "2001:db8:1::/48", "2001:db8:3::/48"
 # Seconds that the kernel keeps what no router tells any longer.
 STAY = 10
-# Seconds within which what is told at once is known, on a machine that does much else.
-AT_ONCE = 3
+# Seconds within which what is told at once is known, on a machine that does much else; and from one regular update of a neighbor to the
+# next, so that only a question brings its table.
+AT_ONCE, SELDOM = 3, 150
 
 
 def two_links(net, program):
@@ -86,6 +86,21 @@ def what_is_not_told_goes(net, program):
     same("whether another has left", is_deleted(ours, STAYS), False)
 
 
+def a_cut_meanwhile(net, program):
+    """A link loses its carrier while no companion is there: the next one takes away its routes at once, and no others."""
+    routers = two_links(net, program)
+    ours = routers["o"]
+    ours.end(signal.SIGKILL)
+    routers["c"].space.ip("link", "set", "to-o", "down")
+    same("what a killed one leaves", set(ours.kernel()), {STAYS, GOES})
+    ours.start()
+    until(REGULAR, "the next one looks", lambda: ours.said("running, ") == 2)
+    until(AT_ONCE, "its route has gone", lambda: set(ours.kernel()) == {STAYS})
+    same("whether another has left", is_deleted(ours, STAYS), False)
+    routers["c"].space.ip("link", "set", "to-o", "up")
+    until(REGULAR, "its route is back", lambda: set(ours.kernel()) == {STAYS, GOES})
+
+
 def a_link_goes_and_comes(net, program):
     """A link without a carrier is no outage of another: the router goes on, and withdraws at once what it has learned there."""
     routers = two_links(net, program)
@@ -99,6 +114,30 @@ def a_link_goes_and_comes(net, program):
     until(REGULAR, "its route is back", lambda: GOES in ours.table() and GOES in routers["b"].table())
     same("the router", routers_of(ours), before)
     same("whether the other one has left", is_deleted(ours, STAYS), False)
+
+
+def a_cut_is_gone_around(net, program):
+    """A triangle of which one side loses its carrier: who is at its ends goes by the third router at once, which tells by itself nothing
+    that they lack, so they have asked it."""
+    spaces = {name: net.space(name) for name in "bop"}
+    order = list(spaces.values())
+    for one, other in zip(order, order[1:] + order[:1]):
+        net.cable(one, other)
+    owned = {"b": [STAYS], "o": ["2001:db8:2::/48"], "p": [GOES]}
+    cables = [("o", 1, "p", 1), ("p", 1, "b", 1), ("b", 1, "o", 1)]
+    routers = {
+        "b": Bird(spaces["b"], {"to-o": 1, "to-p": 1}, owned["b"], update=SELDOM),
+        "o": Ours(spaces["o"], program, {"to-b": {}, "to-p": {}}, owned["o"]),
+        "p": Ours(spaces["p"], program, {"to-o": {}, "to-b": {}}, owned["p"]),
+    }
+    settle(routers, least(cables, owned))
+    time.sleep(6)  # until nobody is asked any longer because a link has come up
+    before = routers["o"].status()["router"]["asked"]
+    spaces["p"].ip("link", "set", "to-o", "down")
+    ends = {name: routers[name] for name in "op"}
+    wanted = least(cables[1:], owned)
+    settle(ends, {name: wanted[name] for name in ends}, QUICK)
+    same("whether it has asked", routers["o"].status()["router"]["asked"] > before, True)
 
 
 def a_last_update(net, program):

@@ -144,16 +144,14 @@ def a_hung_router_is_replaced(net, program):
             except TimeoutError:
                 return False
 
-        while not heard(9):
-            pass
+        until(REGULAR, "systemd hears that all is well", lambda: heard(9))
         [router] = routers_of(ours)
         os.kill(router, signal.SIGSTOP)
         began = time.monotonic()
         same("whether it is named", ask(ours.run, "status")["router"]["answers"], False)
         same("whether that took long", time.monotonic() - began > HANGS, False)
         until(15, "it is said", lambda: ours.said("the router has not answered for 5 s"))
-        while heard(0.1):
-            pass
+        until(5, "systemd has heard what it was told before", lambda: not heard(0.1))
         same("whether systemd hears anything", heard(5), False)
         until(60, "another takes its place", lambda: routers_of(ours) not in ([], [router]) and ours.ctl("counts"))
         same("the kernel's routes", set(ours.kernel()), {LEARNED})
@@ -184,15 +182,17 @@ def no_martians(net, program):
 
 
 def a_bridge_port(net, program):
-    """A device that becomes a port of a bridge is no link, and its routes go; the bridge is one."""
-    _, ours = a_pair(net, program, {"br0": {}})
+    """A device that becomes a port of a bridge is no link, and its routes go, though it has its address; the bridge is one."""
+    _, ours = a_pair(net, program)
     o = ours.space
     until(REGULAR, "it has learned", ours.kernel)
     o.ip("link", "add", "name", "br0", "type", "bridge")
     o.ip("link", "set", "br0", "up")
     o.ip("link", "set", "to-b", "master", "br0")
     until(AT_ONCE, "it is said", lambda: ours.said("ripngd-links: to-b is a port of the bridge br0; name that as the link\n"))
-    until(AT_ONCE, "its routes go", lambda: not any(route["dev"] == "to-b" for route in ours.kernel().values()))
+    same("whether it has its address", "fe80::2" in o.ip("address", "show", "dev", "to-b"), True)
+    until(AT_ONCE, "its routes go", lambda: not ours.kernel() and LEARNED not in ours.table())
+    same("the status of a reload", reload(ours, ours.config.read_text() + '[[link]]\ndevice = "br0"\n')[0], 0)
     until(REGULAR, "they go by the bridge", lambda: any(route["dev"] == "br0" for route in ours.kernel().values()))
 
 
@@ -207,8 +207,12 @@ def a_renamed_device(net, program):
     same("what is refused", ours.status()["kernel"]["refused"], [])
 
 
+# What root lacks that is to become another, and has these capabilities beside those two.
+LACKING = {"": "cannot give {folder} to nobody: needs CAP_CHOWN", ",+chown": "cannot become nobody: needs CAP_SETGID and CAP_SETUID"}
+
+
 def two_capabilities(net, program):
-    """As in a container: root with CAP_NET_ADMIN and CAP_NET_RAW alone, where everybody may open port 521."""
+    """As in a container: root with CAP_NET_ADMIN and CAP_NET_RAW alone, where everybody may open port 521. What it lacks is named."""
     space = net.space("p")
     space.do("sysctl", "-qw", "net.ipv4.ip_unprivileged_port_start=0")
     b = net.space("b")
@@ -223,3 +227,14 @@ def two_capabilities(net, program):
     ours.start()
     same("its status without any", ours.process.wait(REGULAR), 3)
     same("whether that is said", ours.said("ripngd-links: needs CAP_NET_RAW and CAP_NET_ADMIN\n"), 1)
+    ours.config.write_text(ours.config.read_text().replace('user = "root"', 'user = "nobody"'))
+    for more, wanted in LACKING.items():
+        ours.by = ["setpriv", f"--bounding-set=-all,+net_admin,+net_raw{more}", "--inh-caps=-all"]
+        ours.start()
+        same(f"its status with{more}", ours.process.wait(REGULAR), 3)
+        same(f"whether that is said: {wanted}", ours.said(f"ripngd-links: {wanted.format(folder=ours.run)}\n"), 1)
+    far = net.folder / ("x" * 100)
+    ours.by = ["env", f"RUNTIME_DIRECTORY={far}"]
+    ours.start()
+    same("its status in a folder of a long name", ours.process.wait(REGULAR), 3)
+    same("whether that is said", ours.said(f"ripngd-links: cannot listen at {far}/companion: AF_UNIX path too long\n"), 1)

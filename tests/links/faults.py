@@ -1,23 +1,24 @@
 """Cases of what is not as it should be around the companion: it says so, goes on, and tries again. Nothing but a refused table ends it
 with status 1, after which a unit does not start it again."""
 
+import contextlib
 import os
 import re
 import signal
 import subprocess
 import sys
 import time
+from datetime import datetime
 
-from changes import routers_of
+from changes import STAY, kill_router, routers_of
 from edges import AS_BY_A_UNIT
-from least import REGULAR
-from spaces import COMPANION, Bird, Ours, until
-from suite import same
+from least import REGULAR, TRIGGERED
+from spaces import COMPANION, Bird, Ours, same, until
 
 LEARNED, OWNED = "2001:db8:1::/48", "2001:db8:a::/48"
-# Seconds within which a router starts that waits for nothing, on a machine that does much else; and from one look at what nobody tells
-# to the next, with those.
-SOON, LOOK = 7, 75
+# Seconds within which a router starts that waits for nothing, on a machine that does much else, which are fewer than any wait for a link;
+# and from one look at what nobody tells to the next, with those.
+SOON, LOOK = 2.5, 75
 # What takes the place of ip(8): it fails while there is a file.
 FAILING = """#!/bin/sh
 if [ -e {file} ]; then echo "no room" >&2; exit 2; fi
@@ -34,13 +35,55 @@ def a_pair(net, program, links=(), **more):
     return bird, Ours(o, program, {"to-b": {}} | dict(links), [OWNED], **more)
 
 
+def moment(ours, line):
+    """When the companion said that, by its log."""
+    found = re.search(rf"^(\S+) ripngd-links: {re.escape(line)}$", ours.space.text("companion"), re.M)
+    return datetime.fromisoformat(found[1])
+
+
+def fill(path):
+    """Takes all the room that there is for a file."""
+    with open(path, "wb", buffering=0) as file, contextlib.suppress(OSError):
+        while file.write(bytes(4096)):
+            pass
+
+
+def a_full_folder(net, program):
+    """Where no router can start, that is said once, with the file and why; what an earlier one left goes, nothing is left half written,
+    and a router starts once there is room."""
+    b, o = net.space("b"), net.space("o")
+    net.cable(b, o)
+    Bird(b, {"to-o": 1}, [LEARNED])
+    run = o.folder / "run"
+    run.mkdir()
+    subprocess.run(["mount", "-t", "tmpfs", "-o", "size=64k,mode=711", "none", run], check=True)
+    try:
+        ours = Ours(o, program, {"to-b": {}}, [OWNED])
+        until(REGULAR, "it has learned", ours.kernel)
+        until(REGULAR, "its file is there", (run / "status.json").exists)
+        (run / "router.toml").unlink()
+        fill(run / "fill")
+        kill_router(ours)
+        trouble = f"the router is not started, which is tried again: {run}/router.toml: No space left on device\n"
+        until(REGULAR, "it is said", lambda: ours.said(trouble))
+        until(2 * STAY, "its routes go", lambda: not ours.kernel())
+        until(20, "its file is not written either", lambda: ours.said(f"cannot write {run}/status.json, which is tried again: No space left"))
+        same("how often it is said", ours.said(trouble), 1)
+        names = {"companion", "control", "fill", "router.toml", "status.json"}
+        same("what is there", {path.name for path in run.iterdir()}, names)
+        (run / "fill").unlink()
+        until(REGULAR, "it has learned", ours.kernel)
+        same("its starts", ours.status()["router"]["starts"], 2)
+    finally:
+        subprocess.run(["umount", "-l", run], check=True)
+
+
 def an_absent_device(net, program):
     """A device that is not there is named at once, keeps no other link waiting, and is used as soon as it is there."""
     _, ours = a_pair(net, program, {"to-c": {}})
-    until(REGULAR, "it is named", lambda: ours.said("to-c is not there"))
-    began = time.monotonic()
     until(REGULAR, "the router is up", lambda: ours.said("running, "))
-    same("whether it has waited", time.monotonic() - began > SOON, False)
+    named, started = (moment(ours, line) for line in ("to-c is not there", "the router starts on to-b"))
+    same("whether the other has waited", (started - named).total_seconds() > SOON, False)
     same("what is said", ours.said("ripngd-links: to-c is not there\n"), 1)
     c = net.space("c")
     net.cable(c, ours.space)
@@ -77,11 +120,13 @@ def no_forwarding(net, program):
 
 
 def a_table_without_routes(net, program):
-    """A table of the kernel that has had no route yet is empty."""
+    """A table of the kernel that has had no route yet is empty, and that is no fault of `ip`."""
     _, ours = a_pair(net, program, more=["table = 100"])
     until(REGULAR, "it has learned", lambda: ours.table() == {LEARNED: 2, OWNED: 1})
-    same("what is said of `ip`", ours.said("fails"), 0)
+    until(5, "it is there", lambda: f"{LEARNED} via " in ours.space.ip("-6", "route", "show", "table", "100"))
+    same("how often routes are not known", ours.said("are not known"), 0)
     same("its status", ours.end(signal.SIGTERM), 0)
+    same("what is left", "via" in ours.space.ip("-6", "route", "show", "table", "all", "proto", "152"), False)
 
 
 def an_ip_that_fails(net, program):
@@ -94,7 +139,7 @@ def an_ip_that_fails(net, program):
     bird, ours = a_pair(net, program, by=["env", f"PATH={folder}:{os.environ['PATH']}"])
     until(REGULAR, "it is said", lambda: ours.said("the devices are not known"))
     broken.unlink()
-    until(REGULAR, "it has learned", lambda: set(ours.kernel()) == {LEARNED})
+    until(TRIGGERED, "it has learned", lambda: set(ours.kernel()) == {LEARNED})
     until(LOOK, "what is owned leads nowhere", lambda: ours.nowhere() == {OWNED})
     broken.touch()
     bird.own(["2001:db8:5::/48"])
@@ -142,9 +187,11 @@ def nothing_loops(net, program):
     same("the way to all else", way("2600::1"), "to-b")
     ours.end(signal.SIGKILL)
     same("what a killed one leaves", ours.nowhere(), {OWNED})
+    ours.space.start("monitor", "ip", "-6", "monitor", "route")
     ours.start()
     until(REGULAR, "it has learned", lambda: ours.said("running, ") == 2)
     same("what it owns then", ours.nowhere(), {OWNED})
+    same("whether that has left meanwhile", f"Deleted unreachable {OWNED} " in ours.space.text("monitor"), False)
     same("its status", ours.end(signal.SIGTERM), 0)
     same("what is left", ours.space.routes("proto", "152"), {})
 

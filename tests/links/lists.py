@@ -2,9 +2,9 @@
 
 from addresses import BAD, BAE, hops
 from edges import stranger
-from least import GARBAGE, REGULAR
-from spaces import Bird, Ours, until
-from suite import same
+from least import GARBAGE, REGULAR, TRIGGERED
+from reloads import reload
+from spaces import Bird, Ours, same, until
 
 
 def half_of_a_datagram(net, program):
@@ -37,6 +37,24 @@ def what_is_told(net, program):
     wanted["d"] = {prefixes["b"]: 3, prefixes["d"]: 1, BAE: 2}
     for name in "cdb":
         until(REGULAR, f"{name} has just what it is told", lambda: birds[name].table() == wanted[name])
+
+
+def a_default_route(net, program):
+    """It is told on the link that is to be told it, and on no other; packets of the router itself go where its system has said, also
+    once the table no longer has it told."""
+    b, o, c = (net.space(name) for name in "boc")
+    net.cable(b, o)
+    net.cable(o, c)
+    birds = {name: Bird(space, {"to-o": 1}, [prefix]) for name, space, prefix in (("b", b, BAD), ("c", c, BAE))}
+    o.ip("-6", "route", "add", "default", "via", "fe80::9", "dev", "to-b")
+    ours = Ours(o, program, {"to-b": {}, "to-c": {"default_originate": True}})
+    until(REGULAR, "one has it", lambda: birds["c"].table() == {"::/0": 2, BAD: 3, BAE: 1})
+    until(REGULAR, "the other has all else", lambda: birds["b"].table() == {BAD: 1, BAE: 3})
+    same("what leads nowhere", ours.nowhere(), set())
+    same("the way to all else", " dev to-b " in o.ip("-6", "route", "get", "2600::1"), True)
+    text = ours.config.read_text().replace("default_originate = true\n", "")
+    same("the status of a reload", reload(ours, text)[0], 0)
+    until(TRIGGERED, "it is withdrawn", lambda: birds["c"].table() == {BAD: 3, BAE: 1})
 
 
 def the_greatest_number(net, program):

@@ -30,6 +30,7 @@ def a_line(net, program, links=None, cost=1):
     settle(routers, least([CABLES[0], ("o", cost, "c", 1)], {name: OWNED[name] for name in "boc"}))
     spaces["o"].start("monitor", "ip", "-6", "monitor", "route")
     spaces["c"].start("echo", sys.executable, HERE / "pings.py", "echo", THERE_C)
+    until(TRIGGERED, "what is sent there comes back", lambda: spaces["c"].text("echo"))
     return routers, third
 
 
@@ -164,3 +165,22 @@ def links_by_pattern(net, program):
     same("the router", routers_of(ours), before)
     net.cable(e, ours.space)
     settle(routers | {"e": third["e"]}, wanted)
+
+
+def a_reloaded_pattern(net, program):
+    """What a pattern says of its links is changed in the router that runs; another pattern adds links, and one that goes takes its own
+    away. A device that is named has its own table throughout."""
+    routers, third = a_line(net, program, {"to-b": {}, "to-c*": {}})
+    ours = routers["o"]
+    before, text = routers_of(ours), ours.config.read_text()
+    of_c = text.replace('device = "to-c*"\n', 'device = "to-c*"\ncost = 3\n')
+    same("a cost", reload(ours, of_c), (0, ["ok", "to-c*: cost 3"]))
+    here = {name: OWNED[name] for name in "boc"}
+    settle(routers, least([CABLES[0], ("o", 3, "c", 1)], here), TRIGGERED)
+    same("the router", routers_of(ours), before)
+    more = of_c + '[[link]]\ndevice = "to-*"\ncost = 2\n'
+    lost_during(routers, "a pattern that comes", lambda: same("its answer", reload(ours, more), (0, ["ok", "to-* comes"])))
+    settle(routers | third, least([CABLES[0], ("o", 3, "c", 1), ("o", 2, "d", 1)], OWNED))
+    lost_during(routers, "a pattern that goes", lambda: same("its answer", reload(ours, of_c), (0, ["ok", "to-* goes"])))
+    settle(routers, least([CABLES[0], ("o", 3, "c", 1)], here))
+    same("which links are left", [link["device"] for link in ours.status()["links"]], ["to-b", "to-c"])
