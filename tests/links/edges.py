@@ -95,6 +95,9 @@ def a_flood(net, program):
     until(5, "it has no more files", lambda: len(list(pathlib.Path(f"/proc/{ours.process.pid}/fd").iterdir())) <= before)
     answer = "255 " + " ".join(f"2001:db8:{name}::/48" for name in ("1", "2", "10", "bad"))
     same("the answer to a later neighbor", stranger(s, "request"), answer)
+    s.ip("address", "add", "fe80::5/64", "dev", "to-o", "nodad")
+    stranger(s, "neighbor", "fe80::5")
+    until(5, "its tables are counted by its name", lambda: ours.neighbor("to-s", "fe80::5").get("responses", 0) > 0)
 
 
 OTHERS = (

@@ -11,6 +11,7 @@ import socket
 import struct
 import subprocess
 import sys
+import tempfile
 import time
 
 ROOT = pathlib.Path(__file__).resolve().parent.parent.parent
@@ -22,7 +23,8 @@ import kernel  # noqa: E402
 import pure  # noqa: E402
 import sockets  # noqa: E402
 import system  # noqa: E402
-from spaces import until  # noqa: E402
+import watch  # noqa: E402
+from spaces import same, until  # noqa: E402
 from stranger import REQUEST, RESPONSE, checksum  # noqa: E402
 from suite import play, same  # noqa: E402
 
@@ -200,6 +202,48 @@ def devices_as_ip_says():
     same("the state of a port", system.state_of(port), "is a port of the bridge br0; name that as the link")
 
 
+def what_the_kernel_did_not_tell():
+    """More happens than there is room for: that is news, and all is to be looked at."""
+    here = watch.Watch(152)
+    here.sock.setsockopt(socket.SOL_SOCKET, socket.SO_RCVBUF, 4096)
+    for verb in ("add", "del"):
+        lines = "".join(f"address {verb} 192.0.2.{number}/32 dev lo\n" for number in range(1, 250))
+        subprocess.run(["ip", "-batch", "-"], input=lines, text=True, check=True)
+    ip("link", "add", "here", "type", "veth", "peer", "name", "there")
+    ip("link", "del", "here")
+    news = here.read()
+    same("what is told", (news.is_moved, news.is_lost), (True, True))
+    ip("address", "add", "192.0.2.1/32", "dev", "lo")
+    news = here.read()
+    same("of what has room", (news.is_lost, here.read().is_moved), (False, False))
+    ip("address", "del", "192.0.2.1/32", "dev", "lo")
+
+
+# What takes the place of ip(8): its first answers are of a table that changes while it is read.
+CHANGING = """#!/bin/sh
+echo >> {file}
+[ $(wc -l < {file}) -gt {times} ] || echo "Dump was interrupted and may be inconsistent." >&2
+echo '[{{"dst": "default"}}]'
+"""
+
+
+def a_table_that_changes():
+    """What `ip` says of a table that changes while it is read is not taken; it is asked again, and not for ever, and its words are not
+    said."""
+    said, before, path = [], system.say, os.environ["PATH"]
+    system.say = said.append
+    with tempfile.TemporaryDirectory() as folder:
+        os.environ["PATH"] = f"{folder}:{path}"
+        for times, wanted, lines in ((2, [{"dst": "default"}], 0), (9, None, 1)):
+            (pathlib.Path(folder) / "ip").write_text(CHANGING.format(file=f"{folder}/asked-{times}", times=times))
+            (pathlib.Path(folder) / "ip").chmod(0o755)
+            same(f"the answer after {times}", system.told("routes", "route"), wanted)
+            same("how much is said", len(said), lines)
+    os.environ["PATH"], system.say = path, before
+    same("whose words are said", said, ["routes are not known, which is tried again: `ip -j route` is interrupted by changes"])
+    system.unknown.clear()
+
+
 def routes_that_are_mended():
     """What somebody replaced, took away or left is as the router has it; what an earlier router left is not added again."""
     asyncio.run(mended())
@@ -235,7 +279,7 @@ async def mended():
 
 
 CASES = [what_sockets_give, a_device_made_anew, a_filter_that_stays, a_port_that_is_taken, what_is_repeated]
-CASES += [devices_as_ip_says, routes_that_are_mended, *pure.CASES]
+CASES += [devices_as_ip_says, what_the_kernel_did_not_tell, a_table_that_changes, routes_that_are_mended, *pure.CASES]
 
 
 def main():

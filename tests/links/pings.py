@@ -1,12 +1,14 @@
 #!/usr/bin/env python3
-"""A datagram each 50 milliseconds: `pings.py echo ADDRESS` sends each one back, `pings.py send ADDRESS THERE SECONDS` prints how many
-it has sent, and how many did not come back."""
+"""A datagram each 50 milliseconds: `pings.py echo ADDRESS` says when it is ready, and sends each one back; `pings.py send ADDRESS THERE
+SECONDS` prints how many it has sent, and how many did not come back."""
 
 import socket
 import sys
 import time
 
-PORT, EACH, LINGERS = 7008, 0.05, 2
+# Seconds from one to the next, and for which what has not come back is waited for at the end: what is late on a machine that does much
+# else is not lost.
+PORT, EACH, LINGERS = 7008, 0.05, 15
 
 
 def opened(address):
@@ -17,15 +19,16 @@ def opened(address):
 
 def echo(here):
     sock = opened(here)
+    print("ready", flush=True)
     while True:
         sock.sendto(*sock.recvfrom(99))
 
 
 def send(here, there, seconds):
-    """Sends for so long, and listens a while longer."""
+    """Sends for so long, and listens a while longer for what has not come back."""
     sock, sent, back, began = opened(here), 0, set(), time.monotonic()
     sock.settimeout(EACH / 5)
-    while (now := time.monotonic() - began) < seconds + LINGERS:
+    while (now := time.monotonic() - began) < seconds or len(back) < sent and now < seconds + LINGERS:
         if sent * EACH <= now < seconds:
             try:
                 sock.sendto(str(sent).encode(), (there, PORT))
