@@ -342,6 +342,28 @@ def a_shape():
         same(f"whether `{line}` is there", line in text, True)
 
 
+def excerpt(part, whole, place=""):
+    """What a part says that the whole does not: keys, values of another type, or keys in another order."""
+    if isinstance(part, dict):
+        order = [key for key in whole if key in part]
+        yield from [f"{place}.{key}" for key in part if key not in whole] + [f"the order of {place}"] * (order != [key for key in part if key in whole])
+        for key in order:
+            yield from excerpt(part[key], whole[key], f"{place}.{key}")
+    elif isinstance(part, list):
+        for one in part:
+            yield from excerpt(one, whole[0] if whole else one, f"{place}[]")
+    elif whole is not None and not isinstance(part, type(whole)):
+        yield f"{place} is {part!r}"
+
+
+def a_sample():
+    """The manual's sample of a report, but for what it leaves out, has keys of the shape, in its order."""
+    page = (ROOT / "docs/OPERATING.md").read_text()
+    sample = json.loads(re.sub(r",\.\.", "", page.rsplit("shortened:\n\n", 1)[1]))
+    same("what no report has", list(excerpt(sample, a_report())), [])
+    same("what it has", list(sample), ["written_timestamp_seconds", "config", "router", "kernel", "links"])
+
+
 CASES = [links_of_a_table, what_needs_a_new_router, what_a_reload_changes, martians_are_refused, what_the_kernel_tells, states_of_links]
-CASES += [neighbors_come_and_go, limits_are_said, changes_of_routes, lines_of_a_flood, what_the_router_says, a_shape]
+CASES += [neighbors_come_and_go, limits_are_said, changes_of_routes, lines_of_a_flood, what_the_router_says, a_shape, a_sample]
 CASES += [a_router_that_hangs, a_link_is_asked, a_default_is_told]
