@@ -1,5 +1,6 @@
 """What a companion says of itself, in the shape of shape.py: of what it knows, and of the lines of `ctl status`."""
 
+import functools
 import os
 import re
 import tempfile
@@ -16,10 +17,13 @@ REFUSED = re.compile(r"(?:refused|noted) \d+ (\w+) (\d+)")
 NEIGHBOR = re.compile(r"(?:iface (\d+) from (\S+)|others) (arrivals .*)")
 # Words of an interface that have another name in the shape.
 NAMES = {"triggered": "triggered_updates", "answers": "queued_answers"}
-# Reasons that are the operator's.
+# Reasons that are the operator's, and the sums of counts by rule: of datagrams, of entries, and of what is the operator's will.
 FILTERED = {"NotAccepted": "not_accepted", "LimitReached": "limit_reached"}
+SUMS = {"bad_packets": PACKETS, "bad_routes": [name for name in ENTRIES if name not in FILTERED]}
+SUMS |= {key: [name] for name, key in FILTERED.items()}
 
 
+@functools.lru_cache(maxsize=1024)  # most links and neighbors have said nothing from one look to the next
 def numbers(words):
     """Pairs of a word and its number; none of a line that has others."""
     words = words.removeprefix("lost ").split()
@@ -54,10 +58,8 @@ def filled(start, known):
 
 
 def sums(refused):
-    """Counts by rule in sums: of datagrams, of entries, and of what is the operator's will."""
-    bad = {"bad_packets": PACKETS, "bad_routes": [name for name in ENTRIES if name not in FILTERED]}
-    summed = {key: sum(refused.get(name, 0) for name in names) for key, names in bad.items()}
-    return summed | {key: refused.get(name, 0) for name, key in FILTERED.items()}
+    """Counts by rule in sums."""
+    return {key: sum(refused.get(name, 0) for name in names) if refused else 0 for key, names in SUMS.items()}
 
 
 def of_counts(counted, now):
@@ -88,11 +90,20 @@ def of_link(words, state, link, now):
     return filled("links[].", known) | {"neighbors": []}
 
 
+def by_interface(neighbors):
+    """The neighbors of each interface, by address."""
+    found = {}
+    for (number, address), counted in neighbors.items():
+        found.setdefault(number, {})[address] = counted
+    return found
+
+
 def join(told, lines, forwarding):
     """Puts what the router says into a report, with how many routes go by each neighbor."""
     hops = Counter((number, via) for via, number in forwarding.values())
     by_link = Counter(number for _, number in forwarding.values())
     whole, interfaces, neighbors = of_router(lines)
+    at = by_interface(neighbors)
     told["router"] = filled("router.", told["router"] | whole | {"answers": bool(lines)})
     for link in told["links"]:
         number = link["interface"]
@@ -101,9 +112,8 @@ def join(told, lines, forwarding):
         if number in interfaces:
             put_counts(link, interfaces[number], whole.get("now", 0))
         link["routes"] = by_link[number]
-        for (there, address), counted in neighbors.items():
-            if there == number:
-                link["neighbors"].append(of_neighbor(counted, address, hops[number, address], whole.get("now", 0)))
+        for address, counted in at.get(number, {}).items():
+            link["neighbors"].append(of_neighbor(counted, address, hops[number, address], whole.get("now", 0)))
     return told
 
 
