@@ -6,7 +6,8 @@ import time
 
 from edges import is_router
 from least import QUICK, REGULAR, TRIGGERED, least, settle
-from spaces import Bird, Ours, same, until
+from spaces import Bird, Ours, until
+from suite import same
 
 STAYS, GOES = "2001:db8:1::/48", "2001:db8:3::/48"
 # Seconds that the kernel keeps what no router tells any longer.

@@ -13,7 +13,8 @@ from datetime import datetime
 from changes import STAY, kill_router, routers_of
 from edges import AS_BY_A_UNIT
 from least import REGULAR, TRIGGERED
-from spaces import COMPANION, Bird, Ours, same, until
+from spaces import COMPANION, Bird, Ours, until
+from suite import same
 
 LEARNED, OWNED = "2001:db8:1::/48", "2001:db8:a::/48"
 # Seconds within which a router starts that waits for nothing, on a machine that does much else, which are fewer than any wait for a link;

@@ -4,7 +4,8 @@ from addresses import BAD, BAE, hops
 from edges import stranger
 from least import GARBAGE, REGULAR, TRIGGERED
 from reloads import reload
-from spaces import Bird, Ours, same, until
+from spaces import Bird, Ours, until
+from suite import same
 
 
 def half_of_a_datagram(net, program):

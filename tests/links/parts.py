@@ -24,9 +24,9 @@ import pure  # noqa: E402
 import sockets  # noqa: E402
 import system  # noqa: E402
 import watch  # noqa: E402
-from spaces import same, until  # noqa: E402
-from stranger import REQUEST, RESPONSE, checksum  # noqa: E402
+from spaces import until  # noqa: E402
 from suite import play, same  # noqa: E402
+from stranger import REQUEST, RESPONSE, checksum  # noqa: E402
 
 # Of the kernel's headers.
 DETACH_FILTER, NEW_USER, NEW_NETWORK = 27, 0x10000000, 0x40000000
