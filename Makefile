@@ -14,6 +14,7 @@
 # make deb          the same as a Debian package below dist (needs dpkg-deb)
 # make bench        times of a router and its forwarding table, as tables grow
 # make beside       what a route costs here and in BIRD, one after the other (needs root and BIRD, a package of the system)
+# make research     the laboratory beside ns-3, and how the time of rounds grows: tables in Markdown (needs libns3-dev, g++, python3-networkx)
 # make pictures     pictures of the examples, below docs (needs Chromium, a package of the system)
 # make mutants      wrong programs that no contract sees: which test catches each (an estimated half an hour)
 # make clean        forgets what earlier runs built here
@@ -43,7 +44,7 @@ folders = docs docs/pictures examples examples/exercises examples/lessons page
 VERSION = $(shell sed -n 's/^pub const VERSION: &str = "\(.*\)";/\1/p' crates/ripngd_command_line/src/help.rt)
 name = ripngd-$(VERSION)$(if $(UNPROVED),-unproved)-x86_64-linux
 
-.PHONY: all prove test check lab show page film install uninstall dist deb proved bench beside pictures mutants clean
+.PHONY: all prove test check lab show page film install uninstall dist deb proved bench beside research pictures mutants clean
 
 all: bin/ripngd
 
@@ -124,6 +125,10 @@ bench:
 
 beside: proved
 	tools/beside.py bin/ripngd
+
+research: proved
+	tools/beside_ns3.py --program $(PROGRAM)
+	tests/large.py $(PROGRAM) growth
 
 pictures:
 	page/pictures.py

@@ -1,11 +1,13 @@
 #!/usr/bin/env python3
 """Large networks: after rounds each metric is the distance that a breadth-first search finds, and so it is again after a link is down.
 
-    tests/lab/large.py PROGRAM [NAME..]      networks of 1,000 routers, all or those that have NAME in theirs
-    tests/lab/large.py PROGRAM 4096          the largest networks, with 256 prefixes; first what 20 rounds take of each, in processor seconds and MB
+    tests/large.py PROGRAM [NAME..]      networks of 1,000 routers, all or those that have NAME in theirs
+    tests/large.py PROGRAM 4096          the largest networks, with 256 prefixes; first what 20 rounds take of each, in processor seconds and MB
+    tests/large.py PROGRAM growth        what 20 rounds take of 100 to 1,000 routers with a prefix each, and how fast that grows, in Markdown
 """
 
 import collections
+import math
 import os
 import pathlib
 import subprocess
@@ -23,6 +25,14 @@ import topology
 # Shapes, each with how many of its routers own a prefix.
 THOUSAND = {"ring 1000": 1000, "grid 25 40": 100, "ba 1000 2 --seed 3": 100}
 LARGEST = {"ring 4096": 256, "grid 64 64": 256, "ba 4096 2 --seed 3": 256}
+# Shapes of 100 to 1,000 routers, each of which owns a prefix.
+GROWING = {
+    "ring": {count: f"ring {count}" for count in (100, 200, 500, 1000)},
+    "grid": {100: "grid 10 10", 200: "grid 10 20", 500: "grid 20 25", 1000: "grid 25 40"},
+    "ba": {count: f"ba {count} 2 --seed 3" for count in (100, 200, 500, 1000)},
+}
+# How often each is run: the least time counts.
+TIMES = 3
 # How many rounds come before and after a link is down: the first spread the news as far as it goes, and 26 heal any network.
 BEFORE, AFTER = 20, 26
 # The link that is down.
@@ -113,8 +123,37 @@ def is_measured(program, words, owners):
     print(f"{words}: {seconds:.1f} s, {size:.0f} MB", flush=True)
 
 
+def slope(sizes):
+    """How fast numbers grow with sizes, pairs of both: the exponent of the power that fits them best, by least squares of logarithms."""
+    logs = [(math.log(size), math.log(number)) for size, number in sizes]
+    across, up = (sum(column) / len(logs) for column in zip(*logs))
+    return sum((x - across) * (y - up) for x, y in logs) / sum((x - across) ** 2 for x, _ in logs)
+
+
+def taken(program, words, owners):
+    """The least processor seconds of rounds before and after a link is down, with their peak in MB, and the entries that are sent."""
+    network = Large(words, owners)
+    runs = [ran(program, f"{network.start}{network.down(1)}counts\n") for _ in range(TIMES)]
+    seconds, size = min(run[1:] for run in runs)
+    return seconds, size, int(runs[0][0][-1].split(" ")[3])
+
+
+def grows(program):
+    """Says what rounds take of growing networks, and how time and entries grow."""
+    print("| 21 rounds | routers | s | MB | entries | microseconds an entry |\n|---|---|---|---|---|---|", flush=True)
+    for shape, sizes in GROWING.items():
+        found = {count: taken(program, words, count) for count, words in sizes.items()}
+        for count, (seconds, size, entries) in found.items():
+            print(f"| {shape} | {count:,} | {seconds:.3f} | {size:.0f} | {entries:,} | {1e6 * seconds / entries:.3f} |")
+        powers = [slope((count, done[column]) for count, done in found.items()) for column in (0, 2)]
+        print("| {} | grows with the power | {:.2f} | | {:.2f} | |".format(shape, *powers), flush=True)
+    return 0
+
+
 def main(program, *names):
     program = str(pathlib.Path(program).resolve(strict=True))
+    if names == ("growth",):
+        return grows(program)
     if names == ("4096",):
         calls = [(judge, words) for judge in (is_measured, has_metrics) for words in LARGEST]
         return play([(words, lambda folder, judge=judge, words=words: judge(program, words, LARGEST[words])) for judge, words in calls], 1)

@@ -26,6 +26,9 @@ import ripnglab
 import topology
 
 # Names and links of each file, by hand: two routers and a cost.
+ABILENE = ["New-York", "Chicago", "Washington-DC", "Seattle", "Sunnyvale", "Los-Angeles", "Denver", "Kansas-City", "Houston", "Atlanta", "Indianapolis"]
+ABILENE_LINKS = [(0, 1, 1), (0, 2, 1), (1, 10, 1), (2, 9, 1), (3, 4, 3), (3, 6, 1), (4, 5, 1), (4, 6, 1), (5, 8, 4), (6, 7, 1), (7, 8, 1), (7, 10, 1),
+                 (8, 9, 1), (9, 10, 1)]
 READ = {
     "zoo.graphml": (["Zurich", "St-Polten-Krems", "None", "None-2", "Rquiet", "R5"],
                     [("Zurich", "St-Polten-Krems", 3), ("Zurich", "St-Polten-Krems", 2), ("St-Polten-Krems", "None", 2),
@@ -35,9 +38,14 @@ READ = {
     "edges.json": (["a", "b", "c"], [("a", "b", 1), ("b", "c", 9)]),
     "block.clab.yml": (["a", "b", "c"], [("a", "b", 1), ("b", "c", 3), ("a", "c", 1)]),
     "flow.clab.yml": (["r1", "r2", "r3"], [("r1", "r2", 1), ("r2", "r3", 2)]),
+    "triangle.clab.yml": (["a", "b", "c"], [("a", "b", 1), ("b", "c", 1), ("a", "c", 1)]),
+    "abilene.graphml": (ABILENE, [(ABILENE[one], ABILENE[other], 1) for one, other, _ in ABILENE_LINKS]),
+    "abilene.graphml --cost hops": (ABILENE, [(ABILENE[one], ABILENE[other], cost) for one, other, cost in ABILENE_LINKS]),
     "list.edges": (["north", "east", "south", "west"],
                    [("north", "east", 1), ("east", "south", 2), ("south", "west", 1), ("north", "west", 1), ("east", "west", 15)]),
 }
+# At how many places each of them is cut short.
+CUTS = 100
 # A file that is refused: its name, what it has, and what is said of it.
 MANY = "".join(f"r{number} r{number + 1}\n" for number in range(4096))
 HUB = "".join(f"hub leaf{number % 60}\n" for number in range(257))
@@ -164,6 +172,18 @@ def refuses_file(name, content, said, folder):
     path = pathlib.Path(folder) / name
     path.write_bytes(content if isinstance(content, bytes) else content.encode())
     refuses(name, f"{name}, {said}" if said.startswith("line ") else f"{name}: {said}", folder)
+
+
+def is_refused_where_it_ends(path, folder):
+    """A file that is cut short is read, or refused with one line that names the file, and the line where its text is wrong."""
+    content, cut = path.read_bytes(), pathlib.Path(folder) / path.name
+    for end in range(0, len(content), 1 + len(content) // CUTS):
+        cut.write_bytes(content[:end])
+        status, script, said = ran(path.name, cut.parent)
+        if status:
+            same(f"what is written where {end} bytes are left", script, "")
+            if not re.fullmatch(rf"topology\.py: {re.escape(path.name)}(, line \d+|: there is no router).*\n", said):
+                raise Failed(f"where {end} bytes are left it is said {said!r}")
 
 
 def is_a_program():
@@ -306,7 +326,8 @@ def main(program, *names):
         *((f"{words} is read", lambda folder, words=words: reads(words, *READ[words])) for words in READ),
         *((f"{name} is refused", lambda folder, bad=(name, *bad): refuses_file(*bad, folder)) for name, *bad in BAD),
         *((f"{words} is refused", lambda folder, words=words: refuses(words, NO_SHAPES[words], folder)) for words in NO_SHAPES),
-        ("the karate club has its shape", lambda folder: has_shape("karate.txt", 34, 78)),
+        *((f"{words} has its shape", lambda folder, words=words: has_shape(words, 34, 78)) for words in ("karate.txt", "karate.json", "karate.json --cost weight")),
+        *((f"{path.name} cut short says where", lambda folder, path=path: is_refused_where_it_ends(path, folder)) for path in sorted(FILES.iterdir())),
         *((f"{words} has its shape", lambda folder, words=words: has_shape(words, *SHAPES[words])) for words in SHAPES),
         *((f"{words} has its metrics", lambda folder, words=words: has_metrics(program, words)) for words in played),
         ("topology.py is a program", lambda folder: is_a_program()),
