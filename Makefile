@@ -128,7 +128,7 @@ beside: proved
 
 research: proved
 	tools/beside_ns3.py --program $(PROGRAM)
-	tests/large.py $(PROGRAM) growth
+	tests/lab/large.py $(PROGRAM) growth
 
 pictures:
 	page/pictures.py

@@ -1,9 +1,9 @@
 #!/usr/bin/env python3
 """Large networks: after rounds each metric is the distance that a breadth-first search finds, and so it is again after a link is down.
 
-    tests/large.py PROGRAM [NAME..]      networks of 1,000 routers, all or those that have NAME in theirs
-    tests/large.py PROGRAM 4096          the largest networks, with 256 prefixes; first what 20 rounds take of each, in processor seconds and MB
-    tests/large.py PROGRAM growth        what 20 rounds take of 100 to 1,000 routers with a prefix each, and how fast that grows, in Markdown
+    tests/lab/large.py PROGRAM [NAME..]      networks of 1,000 routers, all or those that have NAME in theirs
+    tests/lab/large.py PROGRAM 4096          the largest networks, with 256 prefixes; first what 20 rounds take of each, in processor seconds and MB
+    tests/lab/large.py PROGRAM growth        what 20 rounds take of 100 to 1,000 routers with a prefix each, and how fast that grows, in Markdown
 """
 
 import collections
