@@ -82,11 +82,14 @@ pub record SaysAlone (a : Action) (said said' : Said) : Type 0 where
   pub known_is : said'.known ≡ said.known
   pub writes : WritesRecord (json_of_aside (record { line = said.known.line; action = a })) said.written said'.written
 
--- of the number of the next line it writes nothing, and knows it; of what a line prints, loses or has made, or why it ends the script,
--- a record
+-- of what a line prints, loses or has made, or why it ends the script, a record is written
+abbrev pub SaysPrinted : Said → Said → Type 0
+SaysPrinted said said' = (a : Action) × IsPrinted a × SaysAlone a said said'
+
+-- of the number of the next line it writes nothing, and knows it; of all else a record
 abbrev pub SaysAside : Said → Aside → Said → Type 0
 SaysAside said (NextLine number) said' = said' ≡ record said { known = record said.known { line = number } }
-SaysAside said Prints said' = (a : Action) × IsPrinted a × SaysAlone a said said'
+SaysAside said Prints said' = SaysPrinted said said'
 SaysAside said (CountsPhases phases last) said' = SaysAlone (action.Makes (record { phases = phases; last = last })) said said'
 SaysAside said (ShowsCounts numbers) said' = SaysAlone (action.Tallies numbers) said said'
 SaysAside said (Lie what) said' = SaysMove true said what said'

@@ -1,13 +1,14 @@
 //! A script, traced or explained: one observer, which writes a record of each thing that happens.
 
 ghost use Rattle.std.specs.Prelude.{◌≡◌, [], Bool, None, Ok, OnErr, OnOk, Option};
-ghost use Rattle.ripng_trace.specs.Common.{event_of, LabValue, Broken, IsToldOfLab, IsToldUntil, written_as, IsScriptTraced, IsTraced, IsTracedUntil, BreaksOff, Said, SameOutput, SaysAlone, SaysAside, SaysEvent, SaysMove, SaysStart, said_by};
+ghost use Rattle.ripng_trace.specs.Common.{event_of, LabValue, Broken, IsToldOfLab, IsToldUntil, written_as, IsScriptTraced, IsTraced, IsTracedUntil, BreaksOff, IsPrintWord, Said, SameOutput, SaysAlone, SaysAside, SaysEvent, SaysMove, SaysPrinted, SaysStart, said_by};
 
 use crate::known::Known;
 use crate::records::{Action, AsideRecord};
 use crate::to_json::{Form, write_record};
 use ripng_lab::{
-    Ending, Names, Network, Notice, Printer, Routes, Watch, hint_of, names_of, print_unmet, watched,
+    Ending, Loss, Names, Network, Notice, Printer, Routes, Unmet, Watch, hint_of, names_of,
+    print_unmet, watched,
 };
 use ripng_world::Event;
 use route_table::Moment;
@@ -124,6 +125,70 @@ impl<'a, W: Write> Tracer<'a, W> {
         let record = AsideRecord { line, action };
         write_record(self.known.alloc, self.form, &record, self.out)
     }
+
+    /// Reports what a line prints, in the printer's own words, under the name of what it prints.
+    fn report_printed(&mut self, word: &'static str, notice: Notice<'_>) -> io::Result<()>
+        requires { IsPrintWord word.now }
+        ensures whole { OnOk result (SaysPrinted (said_by W.contents self.old) (said_by W.contents self.new) × SameOutput self.old self.new) }
+        ensures broken { OnErr result (SaysAside (said_by W.contents self.old) Broken (said_by W.contents self.new) × SameOutput self.old self.new) }
+    {
+        let (alloc, names) = (self.known.alloc, self.known.names);
+        let mut prints = Vec::new(alloc);
+        Printer::new(alloc, names, &mut prints).noticed(notice)?;
+        let text = str::from_utf8(&prints).unwrap_or("");
+        let lines = text.lines().collect(alloc)?;
+        self.report_action(Action::Prints { word, lines, text })
+    }
+
+    /// Reports that a router asks its neighbors by itself, about a route that it has lost.
+    fn report_question(&mut self, router: usize, now: Moment, loss: Loss) -> io::Result<()>
+        ensures whole { OnOk result (SaysPrinted (said_by W.contents self.old) (said_by W.contents self.new) × SameOutput self.old self.new) }
+        ensures broken { OnErr result (SaysAside (said_by W.contents self.old) Broken (said_by W.contents self.new) × SameOutput self.old self.new) }
+    {
+        self.known.asks = true;
+        self.report_action(Action::Asks {
+            names: self.known.names,
+            router,
+            now: now.ms(),
+            lost: loss.prefix,
+            lost_at: loss.at.ms(),
+        })
+    }
+
+    /// Reports that a line has made so many rounds, and the number of the last in which a table changed.
+    fn report_rounds(&mut self, rounds: usize) -> io::Result<()>
+        ensures whole { OnOk result (SaysPrinted (said_by W.contents self.old) (said_by W.contents self.new) × SameOutput self.old self.new) }
+        ensures broken { OnErr result (SaysAside (said_by W.contents self.old) Broken (said_by W.contents self.new) × SameOutput self.old self.new) }
+    {
+        // Numbered from 0: in each round there were as many ticks.
+        let before = self.ticks_at_change.checked_sub(1);
+        let last = before.and_then(|n| n.saturating_mul(rounds).checked_div(self.ticks));
+        self.report_action(Action::GoesRound { rounds, last })
+    }
+
+    /// Reports a line that is refused, with a hint where there is one.
+    fn report_refused(&mut self, ending: &Ending) -> io::Result<()>
+        ensures whole { OnOk result (SaysPrinted (said_by W.contents self.old) (said_by W.contents self.new) × SameOutput self.old self.new) }
+        ensures broken { OnErr result (SaysAside (said_by W.contents self.old) Broken (said_by W.contents self.new) × SameOutput self.old self.new) }
+    {
+        let alloc = self.known.alloc;
+        let hint = hint_of(alloc, self.script, ending)?;
+        let why = format!(in alloc; "{}", ending.refusal)?;
+        let (how, why) = ("refused ", why.as_str());
+        self.report_action(Action::Ends { how, why, hint })
+    }
+
+    /// Reports an expectation that is not met.
+    fn report_unmet(&mut self, unmet: &Unmet) -> io::Result<()>
+        ensures whole { OnOk result (SaysPrinted (said_by W.contents self.old) (said_by W.contents self.new) × SameOutput self.old self.new) }
+        ensures broken { OnErr result (SaysAside (said_by W.contents self.old) Broken (said_by W.contents self.new) × SameOutput self.old self.new) }
+    {
+        let mut prints = Vec::new(self.known.alloc);
+        print_unmet(self.known.names, unmet, &mut prints)?;
+        let why = str::from_utf8(&prints).unwrap_or("");
+        let (how, hint) = ("", None);
+        self.report_action(Action::Ends { how, why, hint })
+    }
 }
 
 impl<'a, W: Write> ripng_world::Observer<Routes> for Tracer<'a, W> {
@@ -162,57 +227,27 @@ impl<'a, W: Write> Watch for Tracer<'a, W> {
     }
 
     fn noticed(&mut self, notice: Notice<'_>) -> io::Result<()> {
-        let (alloc, names) = (self.known.alloc, self.known.names);
-        let mut prints = Vec::new(alloc);
-        let word = match &notice {
-            Notice::Routes(..) => "print",
-            Notice::Datagrams(..) => "sent",
-            Notice::Way(_) => "path",
-            Notice::Horizon { .. } => "horizon",
-            Notice::Said(_) => "say",
-            &Notice::Asks { router, now, loss } => {
-                self.known.asks = true;
-                return self.report_action(Action::Asks {
-                    names,
-                    router,
-                    now: now.ms(),
-                    lost: loss.prefix,
-                    lost_at: loss.at.ms(),
-                });
-            }
-            &Notice::Lost(datagram) => return self.report_action(Action::Loses(datagram)),
-            &Notice::Rounds(rounds) => {
-                // Numbered from 0: in each round there were as many ticks.
-                let before = self.ticks_at_change.checked_sub(1);
-                let last = before.and_then(|n| n.saturating_mul(rounds).checked_div(self.ticks));
-                return self.report_action(Action::GoesRound { rounds, last });
-            }
-            &Notice::Phases(made) => return self.report_action(Action::Makes(made)),
-            &Notice::Ran { until, seed } => {
+        match notice {
+            Notice::Routes(..) => self.report_printed("print", notice),
+            Notice::Datagrams(..) => self.report_printed("sent", notice),
+            Notice::Way(_) => self.report_printed("path", notice),
+            Notice::Horizon { .. } => self.report_printed("horizon", notice),
+            Notice::Said(_) => self.report_printed("say", notice),
+            Notice::Asks { router, now, loss } => self.report_question(router, now, loss),
+            Notice::Lost(datagram) => self.report_action(Action::Loses(datagram)),
+            Notice::Rounds(rounds) => self.report_rounds(rounds),
+            Notice::Phases(made) => self.report_action(Action::Makes(made)),
+            Notice::Ran { until, seed } => {
                 let until = until.ms();
-                return self.report_action(Action::Runs { until, seed });
+                self.report_action(Action::Runs { until, seed })
             }
-            &Notice::Counts(counts) => return self.report_action(Action::Tallies(counts)),
-            &Notice::Lied(lab, event, answer, first, forger) => {
-                return self.report(lab, event, true, answer, first, forger);
+            Notice::Counts(counts) => self.report_action(Action::Tallies(counts)),
+            Notice::Lied(lab, event, answer, first, forger) => {
+                self.report(lab, event, true, answer, first, forger)
             }
-            Notice::Refused(ending) => {
-                let hint = hint_of(alloc, self.script, ending)?;
-                let why = format!(in alloc; "{}", ending.refusal)?;
-                let (how, why) = ("refused ", why.as_str());
-                return self.report_action(Action::Ends { how, why, hint });
-            }
-            Notice::Unmet(unmet) => {
-                print_unmet(names, unmet, &mut prints)?;
-                let why = str::from_utf8(&prints).unwrap_or("");
-                let (how, hint) = ("", None);
-                return self.report_action(Action::Ends { how, why, hint });
-            }
-        };
-        Printer::new(alloc, names, &mut prints).noticed(notice)?;
-        let text = str::from_utf8(&prints).unwrap_or("");
-        let lines = text.lines().collect(alloc)?;
-        self.report_action(Action::Prints { word, lines, text })
+            Notice::Refused(ending) => self.report_refused(&ending),
+            Notice::Unmet(unmet) => self.report_unmet(&unmet),
+        }
     }
 }
 
