@@ -30,8 +30,8 @@ function fields(button) {
   const { prefix = '', metric, tag = 0 } = values;
   return { ...values, ask: wholeRequest(), lie: metric && oneResponse(prefix.toLowerCase(), tag, metric) };
 }
-// Fields that a row shares with the row before it: who sends a forged datagram, and what.
-const fellows = button => button.closest('details')?.previousElementSibling?.querySelectorAll('input') ?? [];
+// Fields that a row further down shares with that of a forged Response: who sends it, and what.
+const fellows = button => button.closest('details')?.parentElement.querySelector('.choices:has([name=source])')?.querySelectorAll('input') ?? [];
 
 // Where new lines go: behind the line of this step, or at the end.
 const placeLine = () => view.place === 'end' || isAtEnd() ? ownLines(editor.text) : current()?.record.line ?? 0;

@@ -1,13 +1,15 @@
 // The page in other languages. Its modules write English. Each text that comes into the page is looked up, as a whole or by a pattern with
 // gaps, in the words of a language (page/words). Scripts, the prose of lessons, and what the program prints stay as they are.
 
+import { REASONS } from './texts.js';
+
 // ---- Words ----
 const literal = text => text.replace(/[.*+?^${}()|[\]\\]/g, '\\$&');
-const GAP = /\{(\*|\d*)\}/g;
-// A pattern: {} is a word, {*} is more, whose parts are looked up in turn.
+export const GAP = /\{([*=]|\d*)\}/g;
+// A pattern: {} is a word, {*} is more, whose parts are looked up in turn, and {=} is more that stays.
 function patternOf([english, other]) {
   const kinds = [...english.matchAll(GAP)].map(([, kind]) => kind);
-  const form = english.split(/\{\*?\}/).map(literal).reduce((text, part, at) => `${text}${kinds[at - 1] === '*' ? '(.+)' : '(\\S+)'}${part}`);
+  const form = english.split(/\{[*=]?\}/).map(literal).reduce((text, part, at) => `${text}${kinds[at - 1] ? '(.+)' : '(\\S+)'}${part}`);
   return { form: new RegExp(`^${form}$`), kinds, other, letters: english.replace(GAP, '').length, isLed: !english.startsWith('{') };
 }
 
@@ -51,13 +53,16 @@ export const hasWords = (text, names = []) => {
 
 // ---- In the page ----
 const LANGUAGE = 'ripngd language';
-const AS_IT_IS = '#script, #gutter, #edges, #caption, #answer, #name, #examples option, #language option, pre, code, script, style, #own, #scripts, #module, #worker, .words';
+const AS_IT_IS = '#script, #gutter, #edges, #caption, #answer, #name, #examples option, #language option, pre, code, script, style, #own, #scripts, #module, #worker, .words, [translate=no]';
 const SPOKEN = ['title', 'aria-label', 'aria-valuetext', 'placeholder', 'label', 'data-run'];
-// What could not be said is kept, for tests.
-const speech = { code: 'en', translate: null, missing: new Set(), observer: null };
+// What was said is known by its node and by the name of the attribute, since a node can come to the observer twice. What could not
+// be said is kept, for tests.
+const speech = { code: 'en', translate: null, said: new WeakMap(), missing: new Set(), observer: null };
 
+// Names stay, and so does what the laboratory says of a line that it refuses.
 function noteUnsaid(text) {
-  if (hasWords(text, [...view.trace.names.values()])) speech.missing.add(text);
+  const { names } = view.trace, isHint = text === view.refused?.hint?.text;
+  if (!isHint && hasWords(text, [...names.values(), ...REASONS.keys()])) speech.missing.add(text);
 }
 function saidOf(text) {
   const bare = text.trim().replace(/\s+/g, ' '), said = bare && speech.translate(bare);
@@ -65,18 +70,22 @@ function saidOf(text) {
   return said ? `${/^\s/.test(text) ? ' ' : ''}${said}${/\s$/.test(text) ? ' ' : ''}` : text;
 }
 
+function sayPart(thing, name, text, put) {
+  if (!speech.said.has(thing)) speech.said.set(thing, {});
+  const kept = speech.said.get(thing);
+  if (!text || kept[name] === text) return;
+  kept[name] = saidOf(text);
+  if (kept[name] !== text) put(kept[name]);
+}
+
 function sayText(node) {
-  const { nodeValue } = node, said = node.parentElement?.closest(AS_IT_IS) ? nodeValue : saidOf(nodeValue);
-  if (said !== nodeValue) node.nodeValue = said;
+  if (!node.parentElement?.closest(AS_IT_IS)) sayPart(node, 'text', node.nodeValue, said => { node.nodeValue = said; });
 }
 
 function sayElement(element) {
   if (element.parentElement?.closest(AS_IT_IS) || element.id === 'edges') return;
   if (element.localName === 'option' && !element.hasAttribute('value')) element.value = element.textContent;
-  for (const name of SPOKEN) {
-    const had = element.getAttribute(name), said = had ? saidOf(had) : had;
-    if (said !== had) element.setAttribute(name, said);
-  }
+  for (const name of SPOKEN) sayPart(element, name, element.getAttribute(name), said => element.setAttribute(name, said));
 }
 
 function sayAll(root) {

@@ -11,7 +11,7 @@ import { askingText, hasAsking } from './asking.js';
 import { html } from './markup.js';
 import { drawingOf } from './drawing.js';
 import { detailOf, eventOf, openAt } from './detail.js';
-import { matrixOf, tablesOf, tallyOf } from './tables.js';
+import { linesTold, matrixOf, tablesOf, tallyOf } from './tables.js';
 import { quizOf } from './quiz.js';
 import { verdictOf } from './forwarding.js';
 
@@ -161,7 +161,7 @@ function renderBranches() {
   view.forked = view.script;
   const button = (act, number, text) => html`<button data-act="${act}" data-number="${number}">${text}</button> `;
   refill('branches', html`${branchesOf(view.script).map(({ number, line, there }) => html`<span class="branch">Set aside in line ${line}:
-    <i>${there}</i> ${button('toBranch', number, 'go to it')}${button('compareBranch', number, 'compare')}${button('dropBranch', number, 'drop it')}</span>`)}`);
+    <i>${linesTold(there)}</i> ${button('toBranch', number, 'go to it')}${button('compareBranch', number, 'compare')}${button('dropBranch', number, 'drop it')}</span>`)}`);
 }
 
 // Both ways of a script with a line `asking`, and what they differ in.

@@ -128,6 +128,12 @@ const printedRoute = (router, { prefix, metric, tag, gateway }) =>
 export const printed = ({ routers }) => routers.flatMap(({ table }, router) =>
   inOrder([...table.values()]).filter(({ route }) => !route.isVeiled).map(({ route }) => printedRoute(router, route))).join('');
 
+// What is said of lines of a script: the first, which stays in each language, and how many more.
+export function linesTold(told) {
+  const [line, more = ''] = told.split(/(?=, and \d+ more$)/);
+  return told === 'nothing more' ? html`<span>${told}</span>` : html`<span translate="no">${line}</span><span>${more}</span>`;
+}
+
 // What two runs end with, where it is not the same.
 export function comparisonOf(one, other, here, there) {
   const ends = [one, other].map(({ steps }) => steps.at(-1)), held = ends.map(({ routers }) => routers.map(({ table }) => table));
@@ -136,8 +142,8 @@ export function comparisonOf(one, other, here, there) {
     return prefixes.map(prefix => [router, prefix, ...held.map(tables => tables[router]?.get(prefix)?.route)]);
   }).filter(([, , mine, theirs]) => mine?.metric !== theirs?.metric || exactly(mine?.gateway) !== exactly(theirs?.gateway));
   const told = (trace, route) => !route ? 'no route' : `${route.metric}, ${route.gateway ? wayOf(trace, route.gateway) : 'own'}`;
-  return html`<table><thead><tr><th>router</th><th>prefix</th><th>shown: ${here}; ends at ${seconds(ends[0].now)}</th>
-    <th>branch: ${there}; ends at ${seconds(ends[1].now)}</th></tr></thead><tbody>${rows.map(([router, prefix, mine, theirs]) =>
+  return html`<table><thead><tr><th>router</th><th>prefix</th><th>shown: ${linesTold(here)}; ends at ${seconds(ends[0].now)}</th>
+    <th>branch: ${linesTold(there)}; ends at ${seconds(ends[1].now)}</th></tr></thead><tbody>${rows.map(([router, prefix, mine, theirs]) =>
     html`<tr><td>${nameOf(one, router)}</td><td>${prefix}</td><td>${told(one, mine)}</td><td>${told(other, theirs)}</td></tr>`)}</tbody></table>
     ${rows.length === 0 ? html`<p>Both end with the same routes.</p>` : ''}`;
 }

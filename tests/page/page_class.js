@@ -211,19 +211,25 @@ async function fillBlanks() {
 }
 
 // Names stand in place of numbers wherever a router is named.
+// A router is called by its name everywhere. In the drawing a name stands in the circle if its letters are large enough there; else
+// beside it, with what the router originates.
 async function nameRouters() {
   await lessonNamed('10-poisoned-reverse.lab');
   await make('line', 3);
   await act('rounds');
-  click(one('.router[data-router="0"]'));
-  set('#detail [name=name]', 'Berlin');
-  click(buttonOf('name it'));
-  await settled();
-  click(one('#drawing svg'));
-  click(one('#tables tr[data-router="1"]'));
-  press('last');
-  tell(textOf('#sum'), one('#tables caption').textContent, one('#drawing .router text').textContent);
+  const name = async text => {
+    click(one('.router[data-router="0"]'));
+    set('#detail [name=name]', text);
+    click(buttonOf('name it'));
+    await settled();
+    click(one('#drawing svg'));
+    click(one('#tables tr[data-router="1"]'));
+    press('last');
+    tell(textOf('#sum'), one('#tables caption').textContent, one('#drawing .router text').textContent, one('#drawing .prefix').textContent);
+  };
+  await name('Berlin');
   tell(all('#events .now, #tables td:nth-child(4), #walk, #packet').filter(text => /\bR0\b/.test(text.textContent)).length);
+  await name('Bonn');
 }
 
 // In a quiz nothing tells a metric; a guess is marked, and what is right is seen.

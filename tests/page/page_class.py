@@ -90,8 +90,9 @@ class ClassCases:
               "2 | step 5 of 11"])
 
     def names(self, folder):
+        walk = "1 + 1 = 2: 1 at the owner, and the cost of each hop. 1 hop to the owner, R1 →"
         same("the report", self.report(folder, "nameRouters"),
-             ["1 + 1 = 2: 1 at the owner, and the cost of each hop. 1 hop to the owner, R1 → Berlin. | Berlin | Berlin", "0"])
+             [f"{walk} Berlin. | Berlin | R0 | Berlin · 2001:db8::/32", "0", f"{walk} Bonn. | Bonn | Bonn | 2001:db8::/32"])
 
     def quiz(self, folder):
         same("the report", self.report(folder, "playQuiz"), ["#caption,#detail,#events | ? ? ?", "1 2 3 | 2 of 3 right, 1 at the first guess.", "true | 1 2 3"])

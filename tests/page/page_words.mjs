@@ -1,20 +1,20 @@
 // Words of other languages, for tests/page/page.mjs: that none is missing, and how a text is looked up.
 import { readFileSync, readdirSync } from 'node:fs';
 import { fileURLToPath } from 'node:url';
-import { hasWords, pairsIn, translatorOf } from '../../page/src/languages.js';
-import { named, readTrace } from '../../page/src/trace.js';
-import { checksOf, expectationsOf, isExercise, runnable } from '../../page/src/lessons.js';
-import { equationOf, progressOf } from '../../page/src/exercises.js';
-import { veiled } from '../../page/src/veiling.js';
-import { layOut, wiringOf } from '../../page/src/layout.js';
-import { drawingOf } from '../../page/src/drawing.js';
-import { detailOf, eventOf, openAt } from '../../page/src/detail.js';
-import { matrixOf, tablesOf, tallyOf } from '../../page/src/tables.js';
-import { quizOf } from '../../page/src/quiz.js';
-import { timelineOf } from '../../page/src/timeline.js';
-import { LINES, REASONS } from '../../page/src/texts.js';
-import { OUTCOMES } from '../../page/src/walks.js';
-import { ENDS, verdictOf } from '../../page/src/forwarding.js';
+import { GAP, hasWords, pairsIn, translatorOf } from '../page/src/languages.js';
+import { named, readTrace } from '../page/src/trace.js';
+import { checksOf, expectationsOf, isExercise, runnable } from '../page/src/lessons.js';
+import { equationOf, progressOf } from '../page/src/exercises.js';
+import { veiled } from '../page/src/veiling.js';
+import { layOut, wiringOf } from '../page/src/layout.js';
+import { drawingOf } from '../page/src/drawing.js';
+import { detailOf, eventOf, openAt } from '../page/src/detail.js';
+import { matrixOf, tablesOf, tallyOf } from '../page/src/tables.js';
+import { quizOf } from '../page/src/quiz.js';
+import { timelineOf } from '../page/src/timeline.js';
+import { LINES, REASONS } from '../page/src/texts.js';
+import { OUTCOMES } from '../page/src/walks.js';
+import { ENDS, verdictOf } from '../page/src/forwarding.js';
 
 const FOLDER = fileURLToPath(new URL('../../page/words/', import.meta.url)), files = readdirSync(FOLDER);
 const wordsOf = file => readFileSync(`${FOLDER}${file}`, 'utf8');
@@ -81,7 +81,7 @@ export function wordCases({ ran, same }) {
     },
     'each text has its gaps, and says something': () => {
       for (const file of files) {
-        const count = text => [...text.matchAll(/\{(\*|\d*)\}/g)].length;
+        const count = text => [...text.matchAll(GAP)].length;
         same(`what is not whole in ${file}`, pairsIn(wordsOf(file)).filter(([english, other, ...more]) => !other || more.length > 0 || count(english) !== count(other)), []);
       }
     },
@@ -98,9 +98,9 @@ export function wordCases({ ran, same }) {
     },
     // A gap of one word stays; what a wider one has is looked up, too; numbers put gaps in another order.
     'how a text is looked up': () => {
-      const translate = translatorOf('a round | eine Runde\nLine {}: {*} | Zeile {}: {*}\nLine {}: {*}, twice | Zeile {}: zweimal {*}\n{} of {} | {2} von {1}\n');
-      same('it', ['a round', 'Line 3: a round', 'Line 3: a round, twice', 'Line 3: what', '1 of 2', 'what'].map(text => translate(text)),
-        ['eine Runde', 'Zeile 3: eine Runde', 'Zeile 3: zweimal eine Runde', 'Zeile 3: what', '2 von 1', null]);
+      const translate = translatorOf('a round | eine Runde\nLine {}: {*} | Zeile {}: {*}\nLine {}: {*}, twice | Zeile {}: zweimal {*}\nby {=}. | mit {=}.\n{} of {} | {2} von {1}\n');
+      same('it', ['a round', 'Line 3: a round', 'Line 3: a round, twice', 'Line 3: what', 'by a round.', '1 of 2', 'what'].map(text => translate(text)),
+        ['eine Runde', 'Zeile 3: eine Runde', 'Zeile 3: zweimal eine Runde', 'Zeile 3: what', 'mit a round.', '2 von 1', null]);
       same('what has words', ['16', 'R1, 2001:db8::/32', 'vienna', 'a', '→ ✓', 'a route', 'é ñandú'].map(text => hasWords(text, ['vienna'])), [false, false, false, false, false, true, true]);
     },
   };

@@ -67,11 +67,11 @@ class Speaker:
             same('an event', start in self.read('#events'), True)
             self.page.promised(TOUR)
             self.page.promised(ACTED)
-            self.others()
+            self.said_by_keys()
             same(f'whether {packets} is said', packets in self.read('#verdict'), True)
             same(f'what is not said in {code}', self.page.value('(window.wrappedJSObject ?? window).unsaid()'), '')
 
-    def others(self):
+    def said_by_keys(self):
         for name in ('quiz', 'help'):
             self.page.value(f'document.querySelector("[data-act={name}]").click()')
         self.page.press('Escape')
