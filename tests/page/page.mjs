@@ -1,6 +1,7 @@
 // The page's modules without a browser: random scripts, run by the program, against what it prints and a plain computation.
 //
-//     node tests/page/page.mjs PROGRAM [SCRIPTS [SEED [NAME..]]]     all cases, or those that have a NAME in theirs
+//     node tests/page.mjs PROGRAM [SCRIPTS [SEED [NAME..]]]     all cases, or those that have a NAME in theirs. Of `random scripts` there
+//                                                               are SCRIPTS, and of those that are judged as many, but at least JUDGED
 //
 // A line for each case, `ok NAME` or `FAILED NAME: why`, and last `N passed, M failed`; the exit status is 0 exactly where M is 0.
 // Only what a module exports is called; costs, owners and least costs are computed here anew, from the script's lines alone, and the
@@ -29,6 +30,7 @@ import { placingCases } from './page_placed.mjs';
 import { shownCases } from './page_shown.mjs';
 import { askingCases } from './page_asking.mjs';
 import { verdictCases } from './page_verdict.mjs';
+import { checkJudged } from './page_judged.mjs';
 import { branchCases } from './page_branches.mjs';
 import { pcapCases } from './page_pcap.mjs';
 import { exerciseCases } from './page_exercises.mjs';
@@ -37,6 +39,7 @@ import { madeCases } from './page_made.mjs';
 import { wordCases } from './page_words.mjs';
 import { saidCases } from './page_said.mjs';
 
+const JUDGED = 1000;
 const [program, scripts = '30', seed = '1', ...names] = process.argv.slice(2), folder = mkdtempSync(join(tmpdir(), 'page-'));
 const sources = fileURLToPath(new URL('../../page/src', import.meta.url));
 let random = Number(seed);
@@ -374,6 +377,22 @@ attempt('random scripts', () => {
   }
   if (hops < 10 * Number(scripts)) throw new Error(`only ${hops} hops were seen`);
   return `: ${scripts} of them, ${steps} steps, ${hops} hops of walks, ${passed} of packets`;
+});
+attempt('scripts in which much goes wrong', () => {
+  const all = { arrive: 0, circle: 0, drop: 0, lose: 0 }, count = Math.max(JUDGED, Number(scripts));
+  let marks = 0, prints = 0;
+  for (let number = 0; number < count; number++) {
+    const before = random;
+    try {
+      const judged = checkJudged({ ran, same, below, pick, randomNetwork, prefixes: PREFIXES });
+      [marks, prints] = [marks + judged.marks, prints + judged.prints];
+      for (const fate of judged.fates) all[fate]++;
+    } catch (fault) {
+      throw new Error(`the script of seed ${before}: ${fault.message}`);
+    }
+  }
+  for (const [fate, seen] of Object.entries(all)) if (seen < count / 20) throw new Error(`only ${seen} packets ${fate}`);
+  return `: ${count} of them, ${prints} moments, ${marks} marks, ${Object.entries(all).map(([fate, seen]) => `${seen} ${fate}`).join(', ')}`;
 });
 rmSync(folder, { recursive: true });
 console.log(`${passed} passed, ${failed} failed`);
