@@ -23,7 +23,7 @@ PAGE = pathlib.Path(__file__).resolve().parent
 ROOT = PAGE.parent
 # The modules in order, of the page and of its worker.
 PAGE_MODULES = ["trace", "losses", "datagrams", "pcap", "packets", "walks", "building", "numbering", "losing", "branching", "removing", "lessons", "veiling", "exercises", "varying", "layout", "placing", "markup",
-                "texts", "asking", "filtering", "tables", "acting", "forwarding", "plot", "detail", "quiz", "marks", "timeline", "outsiders", "running", "drawing", "versions", "edges", "comparing", "showing", "keeping", "languages", "laboratory", "playing",
+                "texts", "asking", "filtering", "tables", "acting", "forwarding", "plot", "detail", "quiz", "marks", "timeline", "outsiders", "running", "drawing", "versions", "edges", "comparing", "showing", "keeping", "rooming", "languages", "laboratory", "playing",
                 "editor", "giving", "acts", "keys", "page"]
 WORKER_MODULES = ["module", "worker"]
 STYLES = ["style", "beside"]

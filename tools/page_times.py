@@ -78,7 +78,7 @@ def times(page, name, lines, lab):
     path = os.path.join(page.folder, 'network.html')
     with open(lab) as lab, open(path, 'w') as file:
         file.write(film.film(lab.read(), 'network.lab', '\n'.join(lines) + '\n'))
-    load = come_up(page, path)
+    load = come_up(page, f'{path}#step=1')
     run, memory = page.promised(RUN)
     if page.value(REFUSED):
         print(f'{name}: {page.value(REFUSED)}', flush=True)

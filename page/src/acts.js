@@ -277,7 +277,7 @@ function toLesson(by) {
 const COUNTING = '11-ring-of-three.lab';
 const ACTS = {
   count: () => openNamed(COUNTING).then(() => play(true)),
-  undo, redo, share, copyLink, toBranch, dropBranch, compareBranch, present, lose, remove, untilChange, markAll, hush, quiz: toggleQuiz, again: () => runDraft(), stop: stopRun,
+  undo, redo, unfold, share, copyLink, toBranch, dropBranch, compareBranch, present, lose, remove, untilChange, markAll, hush, quiz: toggleQuiz, again: () => runDraft(), stop: stopRun,
   film: saveFilm,
   save: () => download('.lab', editor.text, 'text/plain'),
   load: () => byId('file').click(),

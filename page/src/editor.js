@@ -36,8 +36,11 @@ function setDraft(text, name = nameFor(text), isShared = false) {
   if (text === editor.text && name === editor.name) return;
   editor.past.push(snapshot());
   Object.assign(editor, { future: [], typedAt: 0 });
+  unfold();
   showDraft({ text, name, isShared });
 }
+// The script of a film is folded until it is asked for, or changes.
+const unfold = () => document.body.classList.remove('film');
 
 // A script that is no example any more has a name of its own. Another script has its own places.
 const bareName = name => name.replace(/^own-/, '').replace(/-\d+\.lab$/, '.lab');

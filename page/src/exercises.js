@@ -30,6 +30,12 @@ export function triesOf(script) {
   const open = ends.filter(({ wanted }) => wanted === '?');
   return { all: filled.length + open.length, filled: filled.length, first: filled.filter(({ text }) => text.endsWith(' first try')).length };
 }
+// Those of an exercise, else null; of the script that was asked about last they are kept, since a step asks again.
+const triesOfLatest = { script: null, tries: null };
+function keptTries(script) {
+  if (triesOfLatest.script !== script) Object.assign(triesOfLatest, { script, tries: isExercise(script) ? triesOf(script) : null });
+  return triesOfLatest.tries?.all > 0 ? triesOfLatest.tries : null;
+}
 const triesText = ({ all, filled, first }) => `${filled} of ${all}, ${first} at the first try`;
 
 // The solution, whose last remark says how it was found. `ripngd lab --against` marks it.
@@ -40,8 +46,8 @@ export function solutionOf(script, name) {
 
 // How far an exercise is; and what can be done at its end.
 export function progressOf({ script, checks = [], step }) {
-  const tries = triesOf(script), next = checks.find(({ isBlank }) => isBlank);
-  if (!isExercise(script) || tries.all === 0) return html``;
+  const tries = keptTries(script), next = checks.find(({ isBlank }) => isBlank);
+  if (!tries) return html``;
   const told = html`<span id="progress">${triesText(tries)}.</span>`;
   if (next) return html`${told}${next.step > step ? html`<button data-act="toBlank">to the next blank</button>` : ''}`;
   return html`${told}<span class="choices"><button data-act="saveSolution">save the solution</button>

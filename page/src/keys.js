@@ -85,7 +85,7 @@ function onKey(event) {
   const more = document.querySelector('#acts details[open]');
   if (key === 'Escape' && more) return more.removeAttribute('open');
   if (key === 'Escape') return isRunning() ? stopRun() : view.span ? finishSpan() : choose(null);
-  if (key === 'Enter' && isAnswered(target)) return event.preventDefault();
+  if (key === 'Enter' && isAnswered(target) || movesBar(target, key)) return event.preventDefault();
   const presses = ['Enter', ' '].includes(key), thing = target.closest('g[data-choose]');
   if (isField(target) && (target.tagName !== 'SELECT' || !act) || presses && target.matches('button, select, summary, a')) return;
   const does = stepWithin(target, key) ?? (thing && presses ? () => choose(thing.dataset.choose) : act)
@@ -122,12 +122,11 @@ function isAnswered(target) {
 
 // ---- Dragging ----
 // Moves a router of the drawing while the pointer is down.
-function onPointerDown({ target, clientX, clientY }) {
-  const router = target.closest('.router')?.dataset.router, drag = new AbortController();
+function onPointerDown(event) {
+  const router = event.target.closest('.router')?.dataset.router;
   if (router === undefined) return;
   const { x, y } = view.shifts[router] ?? { x: 0, y: 0 };
-  const shift = event => {
-    const [across, down] = [event.clientX - clientX, event.clientY - clientY];
+  const shift = (across, down) => {
     if (!view.dragged && Math.hypot(across, down) < 4) return;
     view.dragged = true;
     view.shifts = [...view.shifts];
@@ -135,10 +134,8 @@ function onPointerDown({ target, clientX, clientY }) {
     keepFocus(() => renderDrawing(false));
   };
   const drop = () => {
-    drag.abort();
     if (view.dragged) keepPlaces();
     setTimeout(() => { view.dragged = false; });
   };
-  window.addEventListener('pointermove', shift, drag);
-  for (const ends of ['pointerup', 'pointercancel']) window.addEventListener(ends, drop, drag);
+  followPointer(event, shift, drop);
 }

@@ -7,13 +7,16 @@ import { UNREACHABLE, prefixKey } from './datagrams.js';
 // the page writes, places and branches, and a line that was set aside are no remarks.
 const DRAWN = /^\s|--|^[\s|/\\+-]+$/;
 const isOfPage = line => /^#(?:(?:places|off|fork|branch) |\|)/.test(line);
+// What is longer is told up to here: a browser lays out all of it at each step.
+const MOST_PROSE = 5000;
 function proseOf(block) {
   let isBehindGap = false;
   const kept = block.filter(text => {
     if (text.trim() === '') isBehindGap = true;
     return text.trim() !== '' && !(isBehindGap && DRAWN.test(text));
   });
-  return kept.join(' ');
+  const prose = kept.join(' ');
+  return prose.length > MOST_PROSE ? `${prose.slice(0, MOST_PROSE)} …` : prose;
 }
 
 // The remark that was last before a line, for each line by its number; and behind them that at the script's end. What a script

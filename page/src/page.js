@@ -26,6 +26,7 @@ function listen() {
     byId(id).addEventListener('focusin', ({ target }) => { stops[id].text = target.dataset.choose ?? stops[id].text; });
   }
   byId('drawing').onpointerdown = onPointerDown;
+  listenToBars();
   Object.assign(document, { onclick: onClick, onkeydown: onKey });
   Object.assign(window, { onresize: () => keepFocus(() => renderDrawing(false)), onhashchange: followAddress });
 }
@@ -81,6 +82,7 @@ async function comeUp() {
   const shown = tab ?? asked ?? draft ?? start;
   byId('welcome').hidden = shown !== start || isFilm || addressed().has('script');
   document.body.classList.toggle('embed', addressed().has('embed'));
+  document.body.classList.toggle('film', isFilm && shown === start);
   fill('card', html`${cardOf()}`);
   speak(languageAsked());
   listen();
@@ -92,6 +94,15 @@ async function comeUp() {
     say('Your last script was restored. Others, the lessons and the examples are in the list.');
   }
   view.isUp = true;
+  if (isFilm && shown === start && !addressed().has('step') && !isStill()) runFilm();
+}
+
+// A film runs by itself, within a minute, until a click or a key.
+function runFilm() {
+  byId('speed').value = '0';
+  play(true);
+  const stop = ({ target, key }) => { if (view.timer && key !== ' ' && !target.closest('#run')) play(false); };
+  for (const kind of ['pointerdown', 'keydown']) document.addEventListener(kind, stop, { capture: true, once: true });
 }
 
 comeUp();

@@ -92,15 +92,20 @@ class Page(ClassCases):
 
     @contextlib.contextmanager
     def browser(self):
-        """A browser that nobody uses meanwhile, which keeps nothing of the visit before."""
+        """A browser that nobody uses meanwhile, which keeps nothing of the visit before. One in which a case failed is closed."""
         try:
             one = self.free.get_nowait()
         except queue.Empty:
             one = browser.open_browser(self.kind)
             self.opened.append(one)
-        one.open(f"file://{FILE}")
-        one.value("localStorage.clear(), sessionStorage.clear()")
-        yield one
+        try:
+            one.open(f"file://{FILE}")
+            one.value("localStorage.clear(), sessionStorage.clear()")
+            yield one
+        except BaseException:
+            self.opened.remove(one)
+            one.close()
+            raise
         self.free.put(one)
 
     def close(self):
@@ -140,7 +145,7 @@ class Page(ClassCases):
         return lines
 
     # ---- What is shown ----
-    def film(self, folder, name, script, fragment=""):
+    def film(self, folder, name, script, fragment="step=1"):
         """Each step of a script is shown: its tables are what `lab` prints of routes, each walk is a sum, each datagram is decoded as by
         `show`. What the page says of all routes together at each `print` is answered."""
         said = self.report(folder, "film", script, fragment)
@@ -180,7 +185,7 @@ class Page(ClassCases):
     def changes(self, folder):
         tallies = self.film(folder, "changes", CHANGES)
         same("the tally behind the drop", tallies[3], "7 of 7 metrics belong to a path that is or was there. 6 of 9 routes are shortest paths.")
-        same("what is red", self.report(folder, "refusals", CHANGES, ""),
+        same("what is red", self.report(folder, "refusals", CHANGES, "step=1"),
              ["refused: sent to the group, it has to come with hop limit 255 (10 HopLimit)",
               "refused: the router does not own it (7 ReconfigureRefused 35 NotOwned)"])
 

@@ -44,6 +44,7 @@ export function lessonCases({ ran, same, traceOf, three }) {
     'captions without drawings': () => {
       same('a drawing', captionsOf('# How long?\n#\n#   0\n#  / \\\n#   1---2     link 0 costs 9\nrouter\n# So.\n#places 0 1 2\ncold 0'), ['', '', '', '', '', '', 'How long?', 'How long?', 'How long?', 'So.', 'So.']);
       same('a paragraph', captionsOf('# One.\n#\n# Two.\nrouter').at(-1), 'One. Two.');
+      same('a long one', captionsOf(`${'# a word and words\n'.repeat(20_000)}router`).at(-1).length, 5002);
       same('a drawing alone', captionsOf('# One.\nrouter\n#\n# a --link 0-- b\ncold 0').at(-1), 'One.');
     },
     // Four expectations and a blank: R1 has 2 after a round, and R2 nothing. With a blank all are come to, and without one what is wrong ends

@@ -26,15 +26,34 @@ READ = '''(async () => {
   return [names.length > 25, faults.join('; ')];
 })()'''
 
+# At the last step of each lesson: whether its answer is whole, and can be scrolled to.
+ENDS = '''(async () => {
+  const page = window.wrappedJSObject ?? window, byId = id => document.getElementById(id), faults = [];
+  const names = [...document.querySelectorAll('#scripts > [data-lesson]')].map(script => script.dataset.name);
+  const isCut = element => element.scrollHeight > element.clientHeight + 1 || element.scrollWidth > element.clientWidth + 1;
+  for (const name of names) {
+    await page.openNamed(name);
+    page.go(Infinity);
+    byId('answer').scrollIntoView({ block: 'nearest' });
+    const { left, right, top, bottom, height } = byId('answer').getBoundingClientRect(), isSeen = left >= 0 && right <= innerWidth && height > 20;
+    if (!byId('answer').textContent || !isSeen || ['prose', 'caption', 'answer'].some(id => isCut(byId(id)))) faults.push(`${name}: ${[left, right, top, bottom].map(Math.round)}`);
+    else if (height < innerHeight / 2 && (top < 0 || bottom > innerHeight)) faults.push(`${name} stands at ${top} to ${bottom}`);
+  }
+  return [names.length > 25, faults.join('; ')];
+})()'''
+
 
 class Reader:
     """`page` is the browser; `click`, `comes`, `still` and `read` are those of a visit."""
 
     def lessons(self):
-        """At both widths a lesson is read whole at each step, its answer too, and nothing moves the drawing."""
+        """On wide windows a lesson is read whole at each step, its answer too, and nothing moves the drawing; on others its answer is whole."""
         for size in ((1400, 900), (1920, 1080)):
             self.page.size(*size)
             same(f'what is read at {size}', self.page.promised(READ), [True, ''])
+        for size in ((500, 900), (900, 900), (1100, 900)):
+            self.page.size(*size)
+            same(f'what is read at the ends at {size}', self.page.promised(ENDS), [True, ''])
 
     def first(self):
         """A first visit says what the page is, and counts to infinity in three clicks."""

@@ -15,6 +15,7 @@ sys.dont_write_bytecode = True
 sys.path.append(str(pathlib.Path(__file__).resolve().parents[1] / "support"))
 import browser
 from newcomer import BY_WIDTH, Newcomer
+from page_arranged import Arranged
 from pictured import Pictured
 from reading import Reader
 from solving import Solver
@@ -22,10 +23,10 @@ from speaking import Speaker
 from seen import CUT_OFF, FIND, METRICS, NAMES_KEPT, ROUTE, SHOWN, SMALL, STILL, TEXT_KEPT, WIDE, text_of
 from suite import Failed, same
 
-NAMES = ('newcomer', 'keyboard', 'sizes', 'phone', 'room', 'drafts', 'undone', 'places', 'first', 'lessons', 'branches', 'diagram', 'packets', 'versions', 'forged', 'pasted', 'exercises', 'languages', *BY_WIDTH)
+NAMES = ('newcomer', 'keyboard', 'sizes', 'phone', 'room', 'drafts', 'undone', 'places', 'first', 'lessons', 'branches', 'diagram', 'packets', 'versions', 'forged', 'pasted', 'exercises', 'languages', 'bars', 'film', *BY_WIDTH)
 
 
-class Visit(Newcomer, Reader, Pictured, Solver, Speaker):
+class Visit(Newcomer, Reader, Pictured, Solver, Speaker, Arranged):
     def __init__(self, page, url):
         self.page, self.url = page, url
         self.open(url)

@@ -15,6 +15,8 @@ PROGRAMS = {'chromium': ('chromium', 'chromium-browser', 'google-chrome'), 'fire
 # Names of keys: as the page hears them, the code that Chromium wants, and the letter of Marionette.
 KEYS = {'Tab': (9, '\ue004'), 'Enter': (13, '\ue007'), 'Escape': (27, '\ue00c'), ' ': (32, ' '), 'End': (35, '\ue010'), 'Home': (36, '\ue011'),
         'ArrowLeft': (37, '\ue012'), 'ArrowUp': (38, '\ue013'), 'ArrowRight': (39, '\ue014'), 'ArrowDown': (40, '\ue015')}
+# The seconds that a page may take to come; and how many times as long as it says a test waits, on a machine that does much else.
+OPENING, PATIENCE = 60, float(os.environ.get('PATIENCE', 1))
 MODIFIERS = {'Control': (2, '\ue009'), 'Shift': (8, '\ue008')}
 
 
@@ -27,7 +29,7 @@ def open_browser(kind, width=1400, height=900):
 
 
 class Browser:
-    """What both have; each has `call`, `open`, `value`, `promised`, `click_at`, `press`, `picture` and `size`, and Chromium `media`."""
+    """What both have; each has `call`, `open`, `value`, `promised`, `click_at`, `drag`, `press`, `picture` and `size`, and Chromium `media`."""
 
     def __init__(self):
         self.folder = tempfile.mkdtemp(prefix='browser-')
@@ -37,7 +39,7 @@ class Browser:
 
     def wait(self, expression, seconds=30):
         """The value of an expression of JavaScript, once it is true."""
-        end = time.time() + seconds
+        end = time.time() + PATIENCE * seconds
         while time.time() < end:
             value = self.value(expression)
             if value:
@@ -55,7 +57,7 @@ class Browser:
 
     def downloaded(self, name, seconds=30):
         """The path of a file that the page gives to save, once it is whole."""
-        path, size, end = os.path.join(self.downloads, name), -1, time.time() + seconds
+        path, size, end = os.path.join(self.downloads, name), -1, time.time() + PATIENCE * seconds
         while time.time() < end:
             now = os.path.getsize(path) if os.path.exists(path) else -1
             if now > 0 and now == size and self.is_whole(path):
@@ -119,9 +121,9 @@ class Chromium(Browser):
     def open(self, url):
         # Until the page before is gone: else it could still answer, and keep a draft when it goes.
         self.call('Page.navigate', url='about:blank')
-        self.wait('location.href === "about:blank"')
+        self.wait('location.href === "about:blank"', OPENING)
         self.call('Page.navigate', url=url)
-        self.wait('location.href !== "about:blank" && document.readyState === "complete"')
+        self.wait('location.href !== "about:blank" && document.readyState === "complete"', OPENING)
 
     def value(self, expression):
         answer = self.call('Runtime.evaluate', expression=expression, returnByValue=True, awaitPromise=True)
@@ -135,6 +137,12 @@ class Chromium(Browser):
     def click_at(self, x, y):
         for kind in ('mouseMoved', 'mousePressed', 'mouseReleased'):
             self.call('Input.dispatchMouseEvent', type=kind, x=x, y=y, button='none' if kind == 'mouseMoved' else 'left', clickCount=1)
+
+    def drag(self, start, end):
+        """With the left button down, from a point to another."""
+        moves = [('mouseMoved', start, 'none'), ('mousePressed', start, 'left'), ('mouseMoved', end, 'left'), ('mouseReleased', end, 'left')]
+        for kind, (x, y), button in moves:
+            self.call('Input.dispatchMouseEvent', type=kind, x=x, y=y, button=button, buttons=int(button == 'left'), clickCount=1)
 
     def press(self, key, modifier=None):
         code, flags = KEYS.get(key, (ord(key[0].upper()), None))[0], MODIFIERS[modifier][0] if modifier else 0
@@ -175,7 +183,7 @@ class Firefox(Browser):
         self.size(width, height)
 
     def connect(self, port_file, seconds=120):
-        end = time.time() + seconds
+        end = time.time() + PATIENCE * seconds
         while time.time() < end:
             try:
                 with open(port_file) as file:
@@ -211,11 +219,15 @@ class Firefox(Browser):
 
     def promised(self, expression):
         script = f'const end = arguments[arguments.length - 1]; ({expression}).then(end)'
-        return self.call('WebDriver:ExecuteAsyncScript', script=script, args=[], scriptTimeout=300_000)['value']
+        return self.call('WebDriver:ExecuteAsyncScript', script=script, args=[], scriptTimeout=int(300_000 * PATIENCE))['value']
 
     def click_at(self, x, y):
         moves = [{'type': 'pointerMove', 'x': int(x), 'y': int(y)}, {'type': 'pointerDown', 'button': 0}, {'type': 'pointerUp', 'button': 0}]
         self.act('pointer', moves)
+
+    def drag(self, start, end):
+        to = [{'type': 'pointerMove', 'x': int(x), 'y': int(y)} for x, y in (start, end)]
+        self.act('pointer', [to[0], {'type': 'pointerDown', 'button': 0}, to[1], {'type': 'pointerUp', 'button': 0}])
 
     def press(self, key, modifier=None):
         letters = [MODIFIERS[modifier][1]] if modifier else []
