@@ -1,6 +1,6 @@
 // The page's modules without a browser: random scripts, run by the program, against what it prints and a plain computation.
 //
-//     node tests/page.mjs PROGRAM [SCRIPTS [SEED [NAME..]]]     all cases, or those that have a NAME in theirs. Of `random scripts` there
+//     node tests/page/page.mjs PROGRAM [SCRIPTS [SEED [NAME..]]]     all cases, or those that have a NAME in theirs. Of `random scripts` there
 //                                                               are SCRIPTS, and of those that are judged as many, but at least JUDGED
 //
 // A line for each case, `ok NAME` or `FAILED NAME: why`, and last `N passed, M failed`; the exit status is 0 exactly where M is 0.

@@ -1,20 +1,20 @@
 // Words of other languages, for tests/page/page.mjs: that none is missing, and how a text is looked up.
 import { readFileSync, readdirSync } from 'node:fs';
 import { fileURLToPath } from 'node:url';
-import { GAP, hasWords, pairsIn, translatorOf } from '../page/src/languages.js';
-import { named, readTrace } from '../page/src/trace.js';
-import { checksOf, expectationsOf, isExercise, runnable } from '../page/src/lessons.js';
-import { equationOf, progressOf } from '../page/src/exercises.js';
-import { veiled } from '../page/src/veiling.js';
-import { layOut, wiringOf } from '../page/src/layout.js';
-import { drawingOf } from '../page/src/drawing.js';
-import { detailOf, eventOf, openAt } from '../page/src/detail.js';
-import { matrixOf, tablesOf, tallyOf } from '../page/src/tables.js';
-import { quizOf } from '../page/src/quiz.js';
-import { timelineOf } from '../page/src/timeline.js';
-import { LINES, REASONS } from '../page/src/texts.js';
-import { OUTCOMES } from '../page/src/walks.js';
-import { ENDS, verdictOf } from '../page/src/forwarding.js';
+import { GAP, hasWords, pairsIn, translatorOf } from '../../page/src/languages.js';
+import { named, readTrace } from '../../page/src/trace.js';
+import { checksOf, expectationsOf, isExercise, runnable } from '../../page/src/lessons.js';
+import { equationOf, progressOf } from '../../page/src/exercises.js';
+import { veiled } from '../../page/src/veiling.js';
+import { layOut, wiringOf } from '../../page/src/layout.js';
+import { drawingOf } from '../../page/src/drawing.js';
+import { detailOf, eventOf, openAt } from '../../page/src/detail.js';
+import { matrixOf, tablesOf, tallyOf } from '../../page/src/tables.js';
+import { quizOf } from '../../page/src/quiz.js';
+import { timelineOf } from '../../page/src/timeline.js';
+import { LINES, REASONS } from '../../page/src/texts.js';
+import { OUTCOMES } from '../../page/src/walks.js';
+import { ENDS, verdictOf } from '../../page/src/forwarding.js';
 
 const FOLDER = fileURLToPath(new URL('../../page/words/', import.meta.url)), files = readdirSync(FOLDER);
 const wordsOf = file => readFileSync(`${FOLDER}${file}`, 'utf8');

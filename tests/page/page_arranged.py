@@ -1,6 +1,7 @@
-"""Visits of who arranges the page, for tests/visits.py: bars between panes, which are dragged and moved by keys; and films, which run by
+"""Visits of who arranges the page, for tests/page/visits.py: bars between panes, which are dragged and moved by keys; and films, which run by
 themselves."""
-from seen import WIDE, same, text_of
+from seen import WIDE, text_of
+from suite import same
 
 # The bars that are seen at a width, each with the pane that it is of and which side of that it measures, and how far and which way it is
 # dragged. On a narrow window panes lie below one another, and there is none.

@@ -1,10 +1,10 @@
-// Random scripts in which much goes wrong, for tests/page.mjs: what is said on top of the drawing, next hops, the staircase and marks, each
+// Random scripts in which much goes wrong, for tests/page/page.mjs: what is said on top of the drawing, next hops, the staircase and marks, each
 // against what the program prints of the same script.
-import { readTrace } from '../page/src/trace.js';
-import { metricRuns } from '../page/src/walks.js';
-import { waysOf } from '../page/src/packets.js';
-import { verdictOf } from '../page/src/forwarding.js';
-import { checksOf, expectationsOf } from '../page/src/lessons.js';
+import { readTrace } from '../../page/src/trace.js';
+import { metricRuns } from '../../page/src/walks.js';
+import { waysOf } from '../../page/src/packets.js';
+import { verdictOf } from '../../page/src/forwarding.js';
+import { checksOf, expectationsOf } from '../../page/src/lessons.js';
 
 // Each prefix with an address in it that no other of them has as a longer one.
 const WITHIN = { '2001:db8::/32': '2001:db8:f::1', '2001:db8:1::/48': '2001:db8:1::7', '::/0': '9::1', '2001:0:0:1::/64': '2001:0:0:1::5' };
