@@ -180,6 +180,7 @@ class Firefox(Browser):
         self.socket = self.connect(os.path.join(profile, 'MarionetteActivePort'))
         self.read()
         self.call('WebDriver:NewSession', capabilities={'alwaysMatch': {'unhandledPromptBehavior': 'accept'}})
+        self.call('WebDriver:SetTimeouts', script=int(300_000 * PATIENCE), pageLoad=int(300_000 * PATIENCE))
         self.size(width, height)
 
     def connect(self, port_file, seconds=120):
@@ -219,7 +220,7 @@ class Firefox(Browser):
 
     def promised(self, expression):
         script = f'const end = arguments[arguments.length - 1]; ({expression}).then(end)'
-        return self.call('WebDriver:ExecuteAsyncScript', script=script, args=[], scriptTimeout=int(300_000 * PATIENCE))['value']
+        return self.call('WebDriver:ExecuteAsyncScript', script=script, args=[])['value']
 
     def click_at(self, x, y):
         moves = [{'type': 'pointerMove', 'x': int(x), 'y': int(y)}, {'type': 'pointerDown', 'button': 0}, {'type': 'pointerUp', 'button': 0}]
