@@ -11,7 +11,7 @@ FIND = '''(name => {
   const found = [...document.querySelectorAll('button, select, input, svg g')].filter(isNamed).find(element => element.checkVisibility());
   if (!found) return null;
   found.scrollIntoView({ block: 'nearest' });
-  const line = found.querySelector('path.wire'), box = found.getBoundingClientRect();
+  const line = found.querySelector('path.wire, path.way'), box = found.getBoundingClientRect();
   const at = part => {
     if (!line) return [box.x + part * box.width, box.y + box.height / 2];
     const { x, y } = line.getPointAtLength(part * line.getTotalLength()).matrixTransform(line.getScreenCTM());
