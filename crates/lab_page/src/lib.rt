@@ -5,6 +5,9 @@ ghost use Rattle.std.specs.Prelude.{◌≡◌, ◌⊎◌, ◌≤◌, [], Ok, Opt
 ghost use Rattle.ripng_world.specs.Labs.{LabValue};
 ghost use Rattle.ripng_trace.specs.Scripts.{IsScriptTraced};
 
+mod fates;
+
+pub use fates::lab_page_fates;
 use ripng_trace::trace;
 use std::alloc::Global;
 use std::io;

@@ -1,0 +1,4 @@
+pub mod Outages
+pub mod Ways
+pub mod Text
+pub mod Telling
