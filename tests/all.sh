@@ -20,8 +20,8 @@ moments="daemon/asking.py daemon/sending.py daemon/neighbors.py daemon/control.p
 daemon/watching.py premises/premises.py bench/bench.py"
 # The longest first.
 others="repository/marked.py page/page.py:chromium page/page.py:firefox page/page.py:modules command/rows.py growth/growth.py
-growth/growth_of_calls.py command/cases.py page/lab_file.py command/mutated.py command/hints.py lab/scripts.py repository/pages.py lab/paths.py
-captures/capture.py lab/topologies.py lab/numbers.py lab/shares.py lab/large.py repository/gate.py"
+growth/growth_of_calls.py command/cases.py page/lab_file.py page/fates.py command/mutated.py command/hints.py lab/scripts.py
+repository/pages.py lab/paths.py captures/capture.py lab/topologies.py lab/numbers.py lab/shares.py lab/large.py repository/gate.py"
 
 # `arguments SUITE`: which of the two programs a suite is given, and its word.
 arguments() {
