@@ -50,7 +50,7 @@ uses() {
     done
 }
 
-# The same of a program that calls the library once: the kit makes programs alone without their proofs.
+# The same of a program that calls each function of the library once: the kit makes programs alone without their proofs.
 unproved_code() {
     lend "$kit" "$room"
     copy_sources "$root" "$room/sources"
@@ -61,8 +61,9 @@ unproved_code() {
 fn main(rt: HostRuntime) -> std::process::ExitCode {
     let mut out: [u8; 64] = [0; 64];
     let mut written = 0;
-    let status = lab_page_trace(rt.alloc(), b"", &mut out, &mut written);
-    std::process::ExitCode::from(status as u8)
+    let traced = lab_page_trace(rt.alloc(), b"", &mut out, &mut written);
+    let told = lab_page_fates(rt.alloc(), b"", b"::1", &mut out, &mut written);
+    std::process::ExitCode::from((traced | told) as u8)
 }
 MAIN
     compile_unproved "$room" "$name"
@@ -103,7 +104,7 @@ compile() {
 
 if [ "$from" = --try ]; then
     unproved_code || exit
-    level=-O1 renamed="s/@\"$name::\(${name}_[a-z_]*\)\"/@\1/"
+    level=-O1 renamed="s/@\"$name::\([a-z_]*::\)\?\(${name}_[a-z_]*\)\"/@\2/"
 else
     from=$(realpath "$from")
     proved_code
