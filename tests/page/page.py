@@ -92,13 +92,17 @@ class Page(ClassCases):
 
     @contextlib.contextmanager
     def browser(self):
-        """A browser that nobody uses meanwhile, which keeps nothing of the visit before. One in which a case failed is closed."""
+        """A browser that nobody uses meanwhile, which keeps nothing of the visit before, nor its window. One in which a case failed is
+        closed."""
         try:
             one = self.free.get_nowait()
         except queue.Empty:
             one = browser.open_browser(self.kind)
             self.opened.append(one)
         try:
+            one.size(1400, 900)
+            if self.kind == "chromium":
+                one.media()
             one.open(f"file://{FILE}")
             one.value("localStorage.clear(), sessionStorage.clear()")
             yield one

@@ -11,6 +11,9 @@ FIND = '''(name => {
   const found = [...document.querySelectorAll('button, select, input, svg g')].filter(isNamed).find(element => element.checkVisibility());
   if (!found) return null;
   found.scrollIntoView({ block: 'nearest' });
+  // Firefox scrolls to no part of a drawing.
+  const { top, bottom } = found.getBoundingClientRect();
+  scrollBy(0, bottom > innerHeight ? bottom - innerHeight : Math.min(top, 0));
   const line = found.querySelector('path.wire, path.way'), box = found.getBoundingClientRect();
   const at = part => {
     if (!line) return [box.x + part * box.width, box.y + box.height / 2];
